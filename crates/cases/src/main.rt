@@ -2,7 +2,8 @@
 //
 // A case is a name, a colon and the package's bytes in hexadecimal. A group of digits may stand several times, as in
 // `00*8192`, and groups are parted by spaces. A line without a colon is a heading, and is printed as it stands.
-use clearing::clear;
+#![tactic(auto)]
+
 use package::read;
 use std::alloc::{AllocError, Global};
 use std::io;
@@ -60,24 +61,19 @@ fn assemble(heap: Global, text: &str) -> Result<Option<Vec<u8>>, AllocError> {
 
 // Prints what the package is answered.
 fn answer(rt: &HostRuntime, name: &str, bytes: &[u8]) -> io::Result<()> {
-    let mut work = [0; 8192];
     match read(bytes) {
-        Ok(package) => match clear(package, &mut work) {
-            Ok(cleared) => {
-                let package = cleared.package();
-                let code = package.code().len();
-                let procedures = package.procedure_count();
-                let marks = package.mark_count();
-                println!(rt; "{name}: cleared {code} {procedures} {marks}")
-            }
-            Err(fault) => refuse(rt, name, fault.number(), fault.place()),
-        },
-        Err(fault) => refuse(rt, name, fault.number(), fault.place()),
+        Ok(package) => {
+            let code = package.code().len();
+            let procedures = package.procedure_count();
+            let marks = package.mark_count();
+            println!(rt; "{name}: read {code} {procedures} {marks}")
+        }
+        Err(fault) => {
+            let number = fault.number();
+            let place = fault.place();
+            println!(rt; "{name}: refused {number} at {place}")
+        }
     }
-}
-
-fn refuse(rt: &HostRuntime, name: &str, number: u8, place: usize) -> io::Result<()> {
-    println!(rt; "{name}: refused {number} at {place}")
 }
 
 fn main(rt: HostRuntime) -> io::Result<()> {

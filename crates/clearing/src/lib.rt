@@ -1,4 +1,6 @@
 // Clearing: a package that was read, held to every rule.
+#![tactic(auto)]
+
 pub mod cleared;
 pub mod clearing;
 mod passes;

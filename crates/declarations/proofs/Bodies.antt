@@ -9,7 +9,7 @@ use Rattle.fields.specs.Bytes.{two}
 use Rattle.entries.specs.Sizes.{size_of}
 use Rattle.declarations.specs.Kinds.{kind_of, result_of}
 use Rattle.declarations.specs.Procedures.{Procedure, procedure_of, parameters_size}
-use Rattle.declarations.specs.Marks.{Mark, mark_of, entries_in, entries_of}
+use Rattle.declarations.specs.Marks.{Mark, mark_of, entries_of}
 
 pub procedure-made : (body ks : List ℕ) (o l d : ℕ) (r : Option Kind) → 8 ≤ length body → o ≡ two body 0 → l ≡ two body 2 → d ≡ two body 4 → r ≡ result_of (get_or body 6 0) → ks ≡ drop 8 body → record { offset = o; locals = l; depth = d; result = r; parameters = map kind_of (take 8 ks) } ≡ procedure_of body
 procedure-made body ks o l d r long eo el ed er ek =
@@ -26,11 +26,11 @@ size-le Char = omega arith
 size-le Int = omega arith
 
 -- the mark that a body holds
-pub mark_made : (body es : List ℕ) (o : ℕ) → 2 ≤ length body → o ≡ two body 0 → es ≡ drop 2 body → record { offset = o; entries = entries_in es } ≡ mark_of body
+pub mark_made : (body es : List ℕ) (o : ℕ) → 2 ≤ length body → o ≡ two body 0 → es ≡ drop 2 body → record { offset = o; entries = entries_of es } ≡ mark_of body
 mark_made body es o long eo ee =
-    let q : ◌≡◌ {A = Mark} (record { offset = o; entries = entries_in es }) (record { offset = two body 0; entries = entries_in (drop 2 body) }) = cc in
+    let q : ◌≡◌ {A = Mark} (record { offset = o; entries = entries_of es }) (record { offset = two body 0; entries = entries_of (drop 2 body) }) = cc in
     q ∙ sym (cond-false _ _ _ (le-ltb (length body) 2 long))
 
-pub mark-none : (body : List ℕ) → length body < 2 → record { offset = 0; entries = entries_in [] } ≡ mark_of body
-unfolding entries_in entries_of
+pub mark-none : (body : List ℕ) → length body < 2 → record { offset = 0; entries = entries_of [] } ≡ mark_of body
+unfolding entries_of
 mark-none body short = sym (cond-true _ _ _ (lt-ltb (length body) 2 short))

@@ -1,5 +1,5 @@
 -- Facts about lists that the library's shelf lacks.
-use Rattle.std.proofs.Common.{◌≡◌, ℕ, zero, suc, ◌<◌, ◌≤◌, List, [], ◌∷◌, map, length, get_or, take, Some, None, refl, ap, ◌∙◌, arith}
+use Rattle.std.proofs.Common.{◌≡◌, ℕ, ◌<◌, ◌≤◌, List, map, length, get_or, Some, None, ap, ◌∙◌}
 use Rattle.std.specs.List.{slice_get}
 use Rattle.std.proofs.lemmas.List.{length-map, get_or-map}
 use Rattle.std.proofs.lemmas.Option.{slice_get-get_or, slice_get_past}
@@ -12,9 +12,3 @@ module _ {X Y : Type 0} (f : X → Y) (xs : List X) (i : ℕ) where
 
   pub nth-map-past : length xs ≤ i → slice_get (map f xs) i ≡ None
   nth-map-past l = slice_get_past (map f xs) i (simp length-map l)
-
-pub nth-take : {X : Type 0} (n : ℕ) (xs : List X) (i : ℕ) → i < n → slice_get (take n xs) i ≡ slice_get xs i
-nth-take zero xs i h = absurd (omega arith)
-nth-take (suc n) [] i h = refl
-nth-take (suc n) (x ∷ xs) zero h = refl
-nth-take (suc n) (x ∷ xs) (suc i) h = nth-take n xs i (omega arith)

@@ -1,11 +1,9 @@
 -- Entries stand in three bytes each.
-use Rattle.std.proofs.Common.{◌≡◌, ℕ, zero, suc, ◌+◌, ◌*◌, ◌/◌, ◌<◌, ◌≤◌, min, ◌⊎◌, List, [], ◌∷◌, length, get_or, Some, None, sym, refl, ap, ◌∙◌, inl, inr, arith, length-take}
-use Rattle.std.proofs.lemmas.Option.{slice_get_past}
+use Rattle.std.proofs.Common.{◌≡◌, ℕ, zero, suc, ◌+◌, ◌*◌, ◌/◌, ◌<◌, List, [], ◌∷◌, length, get_or, Some, sym, refl, ap, ◌∙◌, arith}
 use Rattle.std.specs.List.{slice_get}
 use Rattle.entries.specs.declared.Entry.{Entry}
 use Rattle.declarations.specs.Entries.{entry_of}
-use Rattle.declarations.specs.Marks.{entries_of, entries_in}
-use Rattle.declarations.proofs.Lists.{nth-take}
+use Rattle.declarations.specs.Marks.{entries_of}
 
 pub entries-length : (xs : List ℕ) → length (entries_of xs) ≡ length xs / 3
 unfolding entries_of
@@ -32,20 +30,3 @@ entries-nth (b ∷ []) i l = absurd (omega arith)
 entries-nth (b ∷ h ∷ []) i l = absurd (omega arith)
 entries-nth (b ∷ h ∷ l ∷ xs) zero k = refl
 entries-nth (b ∷ h ∷ l ∷ xs) (suc i) k = entries-nth xs i (omega arith) ∙ ap Some (sym (entry-shift b h l xs i))
-
--- the same of those that show
-
-pub listed-length : (xs : List ℕ) → length (entries_in xs) ≡ min 16 (length xs / 3)
-unfolding entries_in
-listed-length xs = length-take 16 (entries_of xs) ∙ ap (min 16) (entries-length xs)
-
-pub listed_nth : (xs : List ℕ) (i : ℕ) → i < 16 → i < length xs / 3 → slice_get (entries_in xs) i ≡ Some (entry_in xs (3 * i))
-unfolding entries_in
-listed_nth xs i h l = nth-take 16 (entries_of xs) i h ∙ entries-nth xs i l
-
-pub listed-past : (xs : List ℕ) (i : ℕ) → (16 ≤ i) ⊎ (length xs / 3 ≤ i) → slice_get (entries_in xs) i ≡ None
-listed-past xs i h = slice_get_past (entries_in xs) i (short h)
-  where
-    short : (16 ≤ i) ⊎ (length xs / 3 ≤ i) → length (entries_in xs) ≤ i
-    short (inl a) = let e = listed-length xs in omega arith
-    short (inr a) = let e = listed-length xs in omega arith

@@ -1,5 +1,5 @@
 -- Marks.
-use Rattle.std.specs.Prelude.{ℕ, cond, List, [], ◌∷◌, length, take, drop, Some, None, Option, ◌==◌, nat_lt}
+use Rattle.std.specs.Prelude.{ℕ, cond, List, [], ◌∷◌, length, drop, Some, None, Option, ◌==◌, nat_lt}
 use Rattle.entries.specs.declared.Entry.{Entry}
 use Rattle.fields.specs.Bytes.{two}
 use Rattle.declarations.specs.Entries.{entry_of}
@@ -16,13 +16,9 @@ entries_of (b ∷ []) = []
 entries_of (b ∷ h ∷ []) = []
 entries_of (b ∷ h ∷ l ∷ xs) = entry_of b (two (h ∷ l ∷ []) 0) ∷ entries_of xs
 
--- of these at most 16; of more, which reading refuses, 16 would show
-unfoldable pub entries_in : List ℕ → List Entry
-entries_in xs = take 16 (entries_of xs)
-
 -- the mark that a field's body holds
 abbrev pub mark_of : List ℕ → Mark
-mark_of body = cond (nat_lt (length body) 2) (record { offset = 0; entries = [] }) (record { offset = two body 0; entries = entries_in (drop 2 body) })
+mark_of body = cond (nat_lt (length body) 2) (record { offset = 0; entries = [] }) (record { offset = two body 0; entries = entries_of (drop 2 body) })
 
 -- the mark at x
 unfoldable pub mark_at : List Mark → ℕ → Option Mark

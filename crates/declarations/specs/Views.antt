@@ -5,14 +5,14 @@ use Rattle.declarations.specs.declared.marks.MarkView.{MarkView}
 use Rattle.fields.specs.Fields.{bodies_in}
 use Rattle.declarations.specs.Kinds.{kind_of}
 use Rattle.declarations.specs.Procedures.{Procedure, procedure_of}
-use Rattle.declarations.specs.Marks.{Mark, entries_in, mark_of}
+use Rattle.declarations.specs.Marks.{Mark, entries_of, mark_of}
 
 abbrev pub procedure_seen : ProcedureView → Procedure
 procedure_seen p =
     record { offset = p.offset; locals = p.locals; depth = p.depth; result = p.result; parameters = map kind_of (take 8 p.kinds.now) }
 
 abbrev pub mark_seen : MarkView → Mark
-mark_seen m = record { offset = m.offset; entries = entries_in m.entries.now }
+mark_seen m = record { offset = m.offset; entries = entries_of m.entries.now }
 
 abbrev pub procedure_found : Option ProcedureView → Option Procedure
 procedure_found None = None

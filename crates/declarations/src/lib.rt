@@ -1,4 +1,6 @@
 // What the fields of a package declare: procedures and marks, as views of the fields' bytes.
+#![tactic(auto)]
+
 mod codes;
 pub mod marks;
 pub mod procedures;

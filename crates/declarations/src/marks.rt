@@ -1,5 +1,5 @@
 // Marks, as their fields hold them.
-ghost use Rattle.std.specs.Prelude.{◌≡◌, ◌*◌, ◌≤◌, length, drop};
+ghost use Rattle.std.specs.Prelude.{◌≡◌, ◌≤◌, length, drop};
 ghost use Rattle.declarations.specs.Entries.{are_entries};
 ghost use Rattle.std.specs.List.{slice_get};
 ghost use Rattle.declarations.specs.Marks.{mark_at, mark_of};
@@ -34,24 +34,20 @@ impl<'a> MarkView<'a> {
         }
     }
 
-    // How many entries there are: at most 16. Of more, which reading refuses, 16 would show.
     pub fn entry_count(&self) -> usize
-        ensures is { result ≡ length (mark_seen self.now).entries }
-        ensures few { result ≤ 16 }
-        ensures held { 3 * result ≤ length self.now.entries.now }
+        ensures { result ≡ length (mark_seen self.now).entries }
     {
-        let count = self.entries.len() / 3;
-        if count > 16 { 16 } else { count }
+        self.entries.len() / 3
     }
 
     // An entry, counted from 0 at the bottom of the stack; none past the top.
     pub fn entry(&self, index: usize) -> Option<Entry>
         ensures { result ≡ slice_get (mark_seen self.now).entries index }
     {
-        if index >= self.entry_count() {
+        let entries = self.entries;
+        if index >= entries.len() / 3 {
             return None;
         }
-        let entries = self.entries;
         let at = 3 * index;
         let number = u16::from_be_bytes([entries[at + 1], entries[at + 2]]);
         Some(entry_of(entries[at], number))

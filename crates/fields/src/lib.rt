@@ -1,4 +1,6 @@
 // A package is a row of fields: a one-byte tag, a two-byte length and that many bytes.
+#![tactic(auto)]
+
 ghost use Rattle.std.specs.Prelude.{◌≡◌, length};
 ghost use Rattle.fields.specs.Fields.{bodies_in, cut, seen};
 

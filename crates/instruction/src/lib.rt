@@ -1,4 +1,6 @@
 // Instructions: what stands in the code, and what later layers ask of it.
+#![tactic(auto)]
+
 pub mod decoding;
 pub mod effects;
 pub mod operations;

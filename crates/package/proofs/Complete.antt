@@ -73,7 +73,7 @@ module _ (xs : List ℕ) where
       (cond-false (eqb (length c) 0) _ _ (ne_eqb (length c) 0 (λ z. omega (arith, good.inside))))
       (mark-shape m good.few)
       (mark-fit (length c) done m good)
-      (ap (λ (n : Mark). record { code = c; procedures = ps; marks = done ++ (n ∷ []) }) (mark-there m good.few good.entries)))))
+      (ap (λ (n : Mark). record { code = c; procedures = ps; marks = done ++ (n ∷ []) }) (mark-there m good.entries)))))
     where
       good : GoodMark (length c) done m
       good = each_at (GoodMark (length c)) done m todo e

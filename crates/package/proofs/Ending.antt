@@ -2,7 +2,7 @@
 use Rattle.std.proofs.Common.{◌≡◌, ℕ, ◌+◌, ◌-◌, ◌<◌, ◌≤◌, Bool, true, false, eqb, List, [], ◌∷◌, ◌++◌, length, get_or, take, drop, Ok, Err, Result, sym, refl, ap, ◌∙◌, subst, arith, length-append, w8, Fits}
 use Rattle.std.specs.List.{flat_map as joined}
 use Rattle.std.proofs.ByRecursion.{All-from_get_or}
-use Rattle.std.proofs.lemmas.List.{append_assoc, take_at, drop_at, take_all, length-take}
+use Rattle.std.proofs.lemmas.List.{append_assoc, take_at, drop_at}
 use Rattle.std.proofs.lemmas.Bool.{cond-true, cond-false, eqb-false, or_parts}
 use Rattle.package.specs.declared.faults.ReadFault.{ReadFault}
 use Rattle.package.specs.declared.faults.ReadFault.TheVariants.{WrongCount}
@@ -15,7 +15,6 @@ use Rattle.package.specs.Format.{code_field, procedure_field, mark_field, EachAf
 use Rattle.package.specs.Judging.{package_within, tallied}
 use Rattle.package.specs.Reading.{judged, field_after, including, reading, AcceptsExactly, RefusesFirst}
 use Rattle.package.specs.Rules.{miscounted, misshapen, last_offset}
-use Rattle.package.specs.Views.{code_in}
 use Rattle.declarations.specs.Views.{marks_in, procedures_in}
 use Rattle.fields.proofs.Whole.{Bytes}
 use Rattle.fields.proofs.Cuts.{cut-length}
@@ -33,21 +32,6 @@ pub record Promised (xs : List ℕ) (r : Result Package ReadFault) : Type 0 wher
 -- bytes, as code knows them
 bytes-known : (xs : List ℕ) → ((i : ℕ) → Fits w8 (get_or xs i 0)) → Bytes xs
 bytes-known xs h = All-from_get_or (λ b. b < 256) xs 0 (λ i _. (h i).fits)
-
--- code within its limit is shown whole
-pub code-all : (xs : List ℕ) → length xs ≤ 8192 → code_in xs ≡ xs
-unfolding code_in
-code-all xs l = take_all 8192 xs l
-
-pub code-front : (xs : List ℕ) → take 8192 xs ≡ code_in xs
-unfolding code_in
-code-front xs = refl
-
-pub code-few : (xs : List ℕ) → length (take 8192 xs) ≤ 8192
-code-few xs = few 8192 xs
-  where
-    few : (n : ℕ) (ys : List ℕ) → length (take n ys) ≤ n
-    few n ys = simp length-take (omega arith)
 
 same-package : (c d : List ℕ) (p q : List Procedure) (m n : List Mark) → c ≡ d → p ≡ q → m ≡ n → ◌≡◌ {A = Package} (record { code = c; procedures = p; marks = m }) (record { code = d; procedures = q; marks = n })
 same-package c d p q m n ec ep em = cc
@@ -149,7 +133,7 @@ module _ (xs : List ℕ) (t : Tally) (rest : List ℕ) (k : Package) (b : Bytes 
 
   shown : length rest ≡ 0 → false ≡ miscounted t.procedures t.marks → package_within xs t.code t.fore ≡ k
   shown z e =
-      let ec = ap code_in (shown-code (some-code e)) ∙ code-all k.code (at_front xs t.at k rest b w.at).good.size in
+      let ec = shown-code (some-code e) in
       let ep = shown-procedures (some-code e) in
       let em = shown-marks z in
       same-package _ _ _ _ _ _ ec ep em

@@ -8,13 +8,13 @@ use Rattle.fields.specs.Bytes.{two}
 use Rattle.entries.specs.Sizes.{size_of}
 use Rattle.declarations.specs.Kinds.{is_result, result_byte, result_of, kind_of, are_kinds}
 use Rattle.declarations.specs.Entries.{are_entries}
-use Rattle.declarations.specs.Marks.{mark_at, Mark, mark_of, entries_in}
+use Rattle.declarations.specs.Marks.{mark_at, Mark, mark_of, entries_of}
 use Rattle.declarations.specs.Procedures.{Procedure, procedure_of}
 use Rattle.package.specs.Format.{EachFrom, EachAfter, GoodProcedure, GoodMark, procedure_body, mark_body}
 use Rattle.package.specs.Rules.{misshapen, unfit_procedure, unfit_mark, out_of_turn, last_offset}
 use Rattle.fields.proofs.Whole.{Bytes, two-there}
-use Rattle.package.proofs.Inverses.{result-is, kinds-are, listed-good, entries-are, entries-bytes, procedure-back, mark-back}
-use Rattle.declarations.proofs.Triples.{listed-length}
+use Rattle.package.proofs.Inverses.{result-is, kinds-are, entries-good, entries-are, entries-bytes, procedure-back, mark-back}
+use Rattle.declarations.proofs.Triples.{entries-length}
 
 -- each element with those before it
 
@@ -274,18 +274,18 @@ mark-good size ms body b l e =
     (record {
       inside = p.0;
       few = few;
-      entries = listed-good (drop 2 body) (All-drop (λ c. c < 256) 2 body b) p.1;
+      entries = entries-good (drop 2 body) (All-drop (λ c. c < 256) 2 body b) p.1;
       alone = mark-alone ms (two body 0) p.2;
     })
   where
     p : (two body 0 < size) × (are_entries (drop 2 body) ≡ true) × (is_some (mark_at ms (two body 0)) ≡ false)
     p = mark-parts size ms body e
 
-    few : length (entries_in (drop 2 body)) ≤ 16
-    few = let n = listed-length (drop 2 body) in omega arith
+    few : length (entries_of (drop 2 body)) ≤ 16
+    few = let n = entries-length (drop 2 body) in let d = length-drop 2 body in let s = l.short in omega arith
 
 pub mark-same : (size : ℕ) (ms : List Mark) (body : List ℕ) → Bytes body → MarkLayout body → unfit_mark size ms body ≡ false → mark_body (mark_of body) ≡ body
-mark-same size ms body b l e = mark-back body b l.long l.short l.triples (mark-parts size ms body e).1
+mark-same size ms body b l e = mark-back body b l.long l.triples (mark-parts size ms body e).1
 
 pub mark-shape : (m : Mark) → length m.entries ≤ 16 → misshapen 3 (mark_body m) ≡ false
 mark-shape m few =

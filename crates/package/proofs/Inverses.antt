@@ -2,8 +2,6 @@
 use Rattle.std.proofs.Common.{◌≡◌, ℕ, ◌+◌, ◌-◌, ◌*◌, ◌%◌, ◌<◌, ◌≤◌, Bool, true, false, cond, ◌||◌, eqb, leb, ◌⊎◌, List, [], ◌∷◌, ◌++◌, map, length, get_or, take, drop, Some, None, Option, sym, refl, ap, ◌∙◌, subst, inl, inr, arith}
 use Rattle.std.specs.List.{flat_map, AllByRecursion as All}
 use Rattle.std.proofs.lemmas.List.{take_all, length-map}
-use Rattle.std.proofs.ByRecursion.{All-take}
-use Rattle.declarations.proofs.Triples.{entries-length}
 use Rattle.std.proofs.lemmas.Bool.{cond-true, cond-false, eq-eqb, eqb-true, le-leb, true≢false, or_cases, cases_Bool, leb-true, cases_lt, lt-ltb, le-ltb}
 use Rattle.entries.specs.declared.Kind.{Kind}
 use Rattle.entries.specs.declared.Kind.TheVariants as kind
@@ -15,7 +13,7 @@ use Rattle.entries.specs.Sizes.{size_of}
 use Rattle.declarations.specs.Kinds.{is_kind, kind_of, result_byte, is_result, result_of, are_kinds}
 use Rattle.declarations.specs.Entries.{entry_bytes, entry_kind_byte, GoodNumber, GoodEntry, is_entry, sign_extended, entry_of, are_entries}
 use Rattle.declarations.specs.Procedures.{Procedure, procedure_of}
-use Rattle.declarations.specs.Marks.{entries_in, Mark, mark_of, entries_of}
+use Rattle.declarations.specs.Marks.{Mark, mark_of, entries_of}
 use Rattle.fields.proofs.Whole.{Bytes, two_back, two-there}
 use Rattle.package.specs.Format.{procedure_body, mark_body}
 
@@ -209,7 +207,7 @@ entries-back (b ∷ h ∷ l ∷ xs) (fb, (fh, (fl, f))) e m =
     let rest = entries-back xs f p.1 (omega arith) in
     ap (λ (ys : List ℕ). ys ++ flat_map entry_bytes (entries_of xs)) here ∙ ap (λ (ys : List ℕ). b ∷ h ∷ l ∷ ys) rest
 
-entries-good : (xs : List ℕ) → Bytes xs → are_entries xs ≡ true → All GoodEntry (entries_of xs)
+pub entries-good : (xs : List ℕ) → Bytes xs → are_entries xs ≡ true → All GoodEntry (entries_of xs)
 unfolding entries_of
 entries-good [] f e = tt
 entries-good (b ∷ []) f e = tt
@@ -275,31 +273,15 @@ procedure-back (a ∷ b ∷ c ∷ d ∷ e ∷ g ∷ h ∷ i ∷ ks) (fa, (fb, (f
 same-mark : (o o' : ℕ) (e e' : List Entry) → o ≡ o' → e ≡ e' → ◌≡◌ {A = Mark} (record { offset = o; entries = e }) (record { offset = o'; entries = e' })
 same-mark o o' e e' eo ee = cc
 
-pub listed-good : (xs : List ℕ) → Bytes xs → are_entries xs ≡ true → All GoodEntry (entries_in xs)
-unfolding entries_in
-listed-good xs f e = All-take GoodEntry 16 (entries_of xs) (entries-good xs f e)
-
--- within their limit all entries show
-all_listed : (xs : List ℕ) → length (entries_of xs) ≤ 16 → entries_in xs ≡ entries_of xs
-unfolding entries_in
-all_listed xs l = take_all 16 (entries_of xs) l
-
-pub mark-there : (m : Mark) → length m.entries ≤ 16 → All GoodEntry m.entries → mark_of (mark_body m) ≡ m
-mark-there m few g =
+pub mark-there : (m : Mark) → All GoodEntry m.entries → mark_of (mark_body m) ≡ m
+mark-there m g =
     cond-false _ _ _ (le-ltb (length (mark_body m)) 2 (omega arith))
-    ∙ same-mark _ _ _ _ (two-there m.offset) (all_listed (flat_map entry_bytes m.entries) short ∙ entries-there m.entries g)
-  where
-    short : length (entries_of (flat_map entry_bytes m.entries)) ≤ 16
-    short = let e = ap length (entries-there m.entries g) in omega arith
+    ∙ same-mark _ _ _ _ (two-there m.offset) (entries-there m.entries g)
 
-pub mark-back : (body : List ℕ) → Bytes body → 2 ≤ length body → length body ≤ 50 → (length body - 2) % 3 ≡ 0 → are_entries (drop 2 body) ≡ true → mark_body (mark_of body) ≡ body
-mark-back [] f long short n e = absurd (omega arith)
-mark-back (a ∷ []) f long short n e = absurd (omega arith)
-mark-back (a ∷ b ∷ es) (fa, (fb, f)) long short n e =
+pub mark-back : (body : List ℕ) → Bytes body → 2 ≤ length body → (length body - 2) % 3 ≡ 0 → are_entries (drop 2 body) ≡ true → mark_body (mark_of body) ≡ body
+mark-back [] f long n e = absurd (omega arith)
+mark-back (a ∷ []) f long n e = absurd (omega arith)
+mark-back (a ∷ b ∷ es) (fa, (fb, f)) long n e =
     ap mark_body (cond-false _ _ _ (le-ltb (length (a ∷ b ∷ es)) 2 long))
-    ∙ ap (λ (xs : List ℕ). xs ++ flat_map entry_bytes (entries_in es)) (two_back a b fb)
-    ∙ ap (λ (is : List Entry). a ∷ b ∷ flat_map entry_bytes is) (all_listed es few)
+    ∙ ap (λ (xs : List ℕ). xs ++ flat_map entry_bytes (entries_of es)) (two_back a b fb)
     ∙ ap (λ (xs : List ℕ). a ∷ b ∷ xs) (entries-back es f e (omega arith))
-  where
-    few : length (entries_of es) ≤ 16
-    few = let l = entries-length es in omega arith

@@ -30,7 +30,7 @@ there-all f g (x ∷ items) (h, a) = let r = there-all f g items a in cc
 pub marks-shown : (size : ℕ) (ms : List Mark) → EachAfter (GoodMark size) ms → marks_in (flat_map mark_field ms) ≡ ms
 marks-shown size ms e =
     ap (map mark_of) (bodies-there 3 mark_body ms)
-    ∙ there-all mark_of mark_body ms (each_all (GoodMark size) (λ m. mark_of (mark_body m) ≡ m) (λ _ m g. mark-there m g.few g.entries) [] ms e)
+    ∙ there-all mark_of mark_body ms (each_all (GoodMark size) (λ m. mark_of (mark_body m) ≡ m) (λ _ m g. mark-there m g.entries) [] ms e)
 
 pub procedures-shown : (size : ℕ) (ps : List Procedure) → EachAfter (GoodProcedure size) ps → procedures_in (flat_map procedure_field ps) ≡ ps
 procedures-shown size ps e =

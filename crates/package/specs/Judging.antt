@@ -6,7 +6,6 @@ use Rattle.package.specs.declared.reading.Tally.{Tally}
 use Rattle.fields.specs.Bytes.{two}
 use Rattle.fields.specs.Fields.{Cut, seen_field}
 use Rattle.package.specs.Package.{Package}
-use Rattle.package.specs.Views.{code_in}
 use Rattle.declarations.specs.Views.{procedures_in, marks_in}
 
 abbrev pub field_told : Result Field ReadFault → Result Cut ReadFault
@@ -30,7 +29,7 @@ tallied t f =
 abbrev pub package_within : List ℕ → ℕ → ℕ → Package
 package_within xs code fore =
     record {
-      code = code_in (take (3 + code - 3) (drop 3 xs));
+      code = take (3 + code - 3) (drop 3 xs);
       procedures = procedures_in (take (fore - (3 + code)) (drop (3 + code) xs));
       marks = marks_in (take (length xs - fore) (drop fore xs));
     }

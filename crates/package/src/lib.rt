@@ -1,4 +1,6 @@
 // Caption packages: their format, reading, and the view of the bytes that reading answers.
+#![tactic(auto)]
+
 pub mod faults;
 pub mod reading;
 pub mod views;

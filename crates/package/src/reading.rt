@@ -9,7 +9,7 @@ ghost use Rattle.declarations.specs.Views.{marks_in};
 ghost use Rattle.package.specs.Views.{package_seen};
 
 use super::faults::ReadFault;
-use super::views::{MOST_CODE, ReadPackage};
+use super::views::ReadPackage;
 use declarations::marks::{find_mark, has_entries};
 use declarations::procedures::{has_kinds, is_result};
 use fields::{Field, next_field};
@@ -22,6 +22,7 @@ const PROCEDURE: u8 = 2;
 const MARK: u8 = 3;
 
 // The limits of the format.
+const MOST_CODE: usize = 8192;
 
 const MOST_PROCEDURES: usize = 64;
 

@@ -1,5 +1,5 @@
 // The package that reading answers: a view of the bytes, and what later layers ask it for.
-ghost use Rattle.std.specs.Prelude.{◌≡◌, ◌≤◌, length};
+ghost use Rattle.std.specs.Prelude.{◌≡◌, length};
 ghost use Rattle.declarations.specs.Marks.{mark_at};
 ghost use Rattle.declarations.specs.Procedures.{opening_at, owner_of, program_of};
 ghost use Rattle.declarations.specs.Views.{mark_found, procedure_found, procedure_seen};
@@ -8,9 +8,6 @@ ghost use Rattle.package.specs.Views.{package_seen};
 use declarations::marks::{MarkView, find_mark};
 use declarations::procedures::{ProcedureView, find_opening, find_owner, first_procedure};
 use fields::field_count;
-
-// The limit on code.
-pub(crate) const MOST_CODE: usize = 8192;
 
 // A package that was read. Only `read` makes one; it borrows the bytes that it shows.
 #[derive(Drop)]
@@ -21,14 +18,9 @@ pub struct ReadPackage<'a> {
 }
 
 impl<'a> ReadPackage<'a> {
-    // The code, at most 8,192 bytes of it.
     pub fn code(&self) -> &'a [u8]
-        ensures is { result.now ≡ (package_seen self.now).code }
-        ensures few { length result.now ≤ 8192 }
+        ensures { result.now ≡ (package_seen self.now).code }
     {
-        if self.code.len() > MOST_CODE {
-            return &self.code[0..MOST_CODE];
-        }
         self.code
     }
 

@@ -1,4 +1,6 @@
 // The clearing rules, each at an offset of the code.
+#![tactic(auto)]
+
 pub mod needs;
 pub mod places;
 pub mod regions;

@@ -1,4 +1,6 @@
 // A shape: what the operand stack holds, as a list of entries.
+#![tactic(auto)]
+
 ghost use Rattle.std.specs.Prelude.{◌≡◌, ◌≤◌, length};
 
 use entries::{Entry, EntryKind};

@@ -1,4 +1,6 @@
 // The table of starts: where instructions start in the code.
+#![tactic(auto)]
+
 ghost use Rattle.std.specs.Prelude.{◌≡◌, ◌≤◌, length};
 ghost use Rattle.start_table.specs.Wiping.{wiped};
 

@@ -1,4 +1,6 @@
 // What clearing answers, and the laws of its answers.
+#![tactic(auto)]
+
 ghost use Rattle.std.specs.Prelude.{◌≡◌};
 ghost use Rattle.verdict.specs.Numbers.{number, place};
 
