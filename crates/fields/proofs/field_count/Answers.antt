@@ -14,4 +14,4 @@ loop-field-preserved c =
     (omega arith, omega arith)
 
 pub returns : goal.returns
-returns c = let e = ap length (bodies-end c.loop-field.rest.now (sym c.in-default.ensures)) in omega arith
+returns c = let e = ap length (bodies-end c.loop-field.rest.now (sym c.in_default.ensures)) in omega arith
