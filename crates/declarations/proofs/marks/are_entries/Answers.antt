@@ -7,14 +7,14 @@ use Rattle.declarations.proofs.marks.are_entries.Goals as goal
 pub loop-rest-preserved : goal.loop-rest-preserved
 loop-rest-preserved c =
     c.loop-rest.invariant
-    ∙ entries-more c.loop-rest.rest.now c.from-be-bytes.result (search rules) c.from-be-bytes.ensures (sym c.is-entry.ensures ∙ c.if-not-is-entry.false)
+    ∙ entries-more c.loop-rest.rest.now c.from_be_bytes.result (search rules) c.from_be_bytes.ensures (sym c.is_entry.ensures ∙ c.if-not-is_entry.false)
     ∙ ap are_entries (sym (take_rest c.loop-rest.rest.now 3))
 
-pub returns-then-not-is-entry : goal.returns-then-not-is-entry
-returns-then-not-is-entry c =
+pub returns-then-not-is_entry : goal.returns-then-not-is_entry
+returns-then-not-is_entry c =
     sym
     (c.loop-rest.invariant
-    ∙ entries-fail c.loop-rest.rest.now c.from-be-bytes.result (search rules) c.from-be-bytes.ensures (sym c.is-entry.ensures ∙ c.if-not-is-entry.true))
+    ∙ entries-fail c.loop-rest.rest.now c.from_be_bytes.result (search rules) c.from_be_bytes.ensures (sym c.is_entry.ensures ∙ c.if-not-is_entry.true))
 
 pub returns : goal.returns
 returns c = sym (c.loop-rest.invariant ∙ entries_none c.loop-rest.rest.now (search rules))

@@ -20,4 +20,4 @@ returns-then-from-offset c =
     ∙ mark-hit c.loop-field.rest.now c.args.offset (seen_field c.in-Some.field) (mark_seen c.of-mark.result) (sym c.in-Some.ensures) c.of-mark.ensures (sym c.from.ensures ∙ c.if-from-offset.true))
 
 pub returns : goal.returns
-returns c = sym (c.loop-field.invariant ∙ mark-missed c.loop-field.rest.now c.args.offset (sym c.in-default.ensures))
+returns c = sym (c.loop-field.invariant ∙ mark-missed c.loop-field.rest.now c.args.offset (sym c.in_default.ensures))

@@ -20,4 +20,4 @@ returns-then-from-offset c =
     ∙ opening-hit c.loop-field.rest.now c.args.offset (seen_field c.in-Some.field) (procedure_seen c.of-found.result) (sym c.in-Some.ensures) c.of-found.ensures (sym c.from.ensures ∙ c.if-from-offset.true))
 
 pub returns : goal.returns
-returns c = sym (c.loop-field.invariant ∙ opening-missed c.loop-field.rest.now c.args.offset (sym c.in-default.ensures))
+returns c = sym (c.loop-field.invariant ∙ opening-missed c.loop-field.rest.now c.args.offset (sym c.in_default.ensures))

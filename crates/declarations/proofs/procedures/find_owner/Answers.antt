@@ -26,4 +26,4 @@ returns-then-from-offset c =
 pub returns : goal.returns
 returns c =
     c.of-2.ensures
-    ∙ sym (c.loop-field.invariant ∙ owner-end c.loop-field.rest.now (procedure_of c.loop-field.best.now) c.args.offset (sym c.in-default.ensures))
+    ∙ sym (c.loop-field.invariant ∙ owner-end c.loop-field.rest.now (procedure_of c.loop-field.best.now) c.args.offset (sym c.in_default.ensures))

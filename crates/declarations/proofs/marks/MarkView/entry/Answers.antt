@@ -12,4 +12,4 @@ returns-then-index-entries c =
     sym (slice_get_past _ _ l)
 
 pub returns : goal.returns
-returns c = ap Some (c.entry-of.ensures ∙ ap (entry_of (get_or c.args.self.now.entries.now (3 * c.args.index) 0)) c.from-be-bytes-number.ensures) ∙ sym (entries-nth _ _ c.if-index-entries.false)
+returns c = ap Some (c.entry_of.ensures ∙ ap (entry_of (get_or c.args.self.now.entries.now (3 * c.args.index) 0)) c.from_be_bytes-number.ensures) ∙ sym (entries-nth _ _ c.if-index-entries.false)

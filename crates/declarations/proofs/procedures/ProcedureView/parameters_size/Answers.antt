@@ -8,9 +8,9 @@ use Rattle.declarations.proofs.procedures.ProcedureView.parameters_size.Goals as
 
 pub loop-byte-preserved : goal.loop-byte-preserved
 loop-byte-preserved c =
-    let xs = c.kind-bytes-kinds.result.now in
+    let xs = c.kind_bytes-kinds.result.now in
     let i = c.loop-byte.byte-index in
-    let e : c.size-size.result ≡ size_of (kind_of (get_or xs i 0)) = c.size-size.ensures ∙ ap size_of c.kind-of.ensures in
+    let e : c.size-size.result ≡ size_of (kind_of (get_or xs i 0)) = c.size-size.ensures ∙ ap size_of c.kind_of.ensures in
     let m = sizes-more xs i c.loop-byte-test.true in
     let le = size-le (kind_of (get_or xs i 0)) in
     (omega arith, omega arith)
@@ -18,10 +18,10 @@ loop-byte-preserved c =
 pub returns : goal.returns
 returns c =
     let few = length-take 8 c.args.self.now.kinds.now in
-    let same = ap length c.kind-bytes-kinds.ensures in
+    let same = ap length c.kind_bytes-kinds.ensures in
     record {
       is =
           c.loop-byte.invariant.0
-          ∙ ap (λ (ks : List ℕ). parameters_size (map kind_of ks)) (take_all _ _ c.loop-byte-test.false ∙ c.kind-bytes-kinds.ensures);
+          ∙ ap (λ (ks : List ℕ). parameters_size (map kind_of ks)) (take_all _ _ c.loop-byte-test.false ∙ c.kind_bytes-kinds.ensures);
       few = omega (arith, c.loop-byte.invariant.1, few, same);
     }
