@@ -10,36 +10,36 @@ use Rattle.package.proofs.reading.read.Goals as goal
 pub loop-rest-init : goal.loop-rest-init
 loop-rest-init c = (nothing, tracks-none c.args.bytes.now)
 
-pub returns-in-err-field : goal.returns-in-err-field
-returns-in-err-field c =
-    let p = err_from_is_err_and c.from-residual.result c.from-residual.ensures.1 in
-    let r : answered c.from-residual.result ≡ Err c.in-err-field.field-0.0 = ap answered p.1 ∙ ap Err p.2 in
-    let a = subst (Promised c.args.bytes.now) (sym r) (stops c.args.bytes.now c.loop-rest.tally c.loop-rest.rest.now c.type-inv.bytes c.loop-rest.invariant c.in-err-field.field-0.0 c.loop-rest-test.true c.in-err-field.ensures) in
-    record { answers = a.answers; accepts-exactly = a.accepts; refuses-first = a.refuses }
+pub returns-in_err-field : goal.returns-in_err-field
+returns-in_err-field c =
+    let p = err_from_is_err_and c.from_residual.result c.from_residual.ensures.1 in
+    let r : answered c.from_residual.result ≡ Err c.in_err-field.field-0.0 = ap answered p.1 ∙ ap Err p.2 in
+    let a = subst (Promised c.args.bytes.now) (sym r) (stops c.args.bytes.now c.loop-rest.tally c.loop-rest.rest.now c.type_inv.bytes c.loop-rest.invariant c.in_err-field.field-0.0 c.loop-rest-test.true c.in_err-field.ensures) in
+    record { answers = a.answers; accepts_exactly = a.accepts; refuses_first = a.refuses }
 
 pub include-requires : goal.include-requires
 include-requires c =
-    let g = goes_on c.args.bytes.now c.loop-rest.tally c.loop-rest.rest.now c.type-inv.bytes c.loop-rest.invariant (seen_field c.in-ok-field.field) c.in-ok-field.ensures in
+    let g = goes_on c.args.bytes.now c.loop-rest.tally c.loop-rest.rest.now c.type_inv.bytes c.loop-rest.invariant (seen_field c.in_ok-field.field) c.in_ok-field.ensures in
     (g.shape, (omega (arith, g.within), (g.few.0, g.few.1)))
 
 pub loop-rest-smaller : goal.loop-rest-smaller
 loop-rest-smaller c =
-    (goes_on c.args.bytes.now c.loop-rest.tally c.loop-rest.rest.now c.type-inv.bytes c.loop-rest.invariant (seen_field c.in-ok-field.field) c.in-ok-field.ensures).shorter
+    (goes_on c.args.bytes.now c.loop-rest.tally c.loop-rest.rest.now c.type_inv.bytes c.loop-rest.invariant (seen_field c.in_ok-field.field) c.in_ok-field.ensures).shorter
 
 pub loop-rest-preserved : goal.loop-rest-preserved
 loop-rest-preserved c =
-    goes-again c.args.bytes.now c.loop-rest.tally c.loop-rest.rest.now c.type-inv.bytes c.loop-rest.invariant (seen_field c.in-ok-field.field) c.include.new.self c.in-ok-field.ensures c.include.ensures
+    goes-again c.args.bytes.now c.loop-rest.tally c.loop-rest.rest.now c.type_inv.bytes c.loop-rest.invariant (seen_field c.in_ok-field.field) c.include.new.self c.in_ok-field.ensures c.include.ensures
 
 pub returns-then-miscounts : goal.returns-then-miscounts
 returns-then-miscounts c =
-    let a = ends-wrong c.args.bytes.now c.loop-rest.tally c.loop-rest.rest.now c.type-inv.bytes c.loop-rest.invariant (omega arith) c.if-miscounts.ensures in
-    record { answers = a.answers; accepts-exactly = a.accepts; refuses-first = a.refuses }
+    let a = ends-wrong c.args.bytes.now c.loop-rest.tally c.loop-rest.rest.now c.type_inv.bytes c.loop-rest.invariant (omega arith) c.if-miscounts.ensures in
+    record { answers = a.answers; accepts_exactly = a.accepts; refuses_first = a.refuses }
 
 pub view-requires : goal.view-requires
 view-requires c =
-    ends-fitting c.args.bytes.now c.loop-rest.tally c.loop-rest.rest.now c.type-inv.bytes c.loop-rest.invariant c.if-miscounts.ensures
+    ends-fitting c.args.bytes.now c.loop-rest.tally c.loop-rest.rest.now c.type_inv.bytes c.loop-rest.invariant c.if-miscounts.ensures
 
 pub returns : goal.returns
 returns c =
-    let a = ends-well c.args.bytes.now c.loop-rest.tally c.loop-rest.rest.now c.type-inv.bytes c.loop-rest.invariant (omega arith) c.if-miscounts.ensures (package_seen c.view.result) c.view.ensures in
-    record { answers = a.answers; accepts-exactly = a.accepts; refuses-first = a.refuses }
+    let a = ends-well c.args.bytes.now c.loop-rest.tally c.loop-rest.rest.now c.type_inv.bytes c.loop-rest.invariant (omega arith) c.if-miscounts.ensures (package_seen c.view.result) c.view.ensures in
+    record { answers = a.answers; accepts_exactly = a.accepts; refuses_first = a.refuses }

@@ -4,4 +4,4 @@ use Rattle.declarations.specs.Marks.{mark_of}
 use Rattle.package.proofs.views.ReadPackage.mark_count.Goals as goal
 
 pub returns : goal.returns
-returns c = c.field-count.ensures ∙ sym (length-map _ mark_of)
+returns c = c.field_count.ensures ∙ sym (length-map _ mark_of)

@@ -4,4 +4,4 @@ use Rattle.declarations.specs.Procedures.{procedure_of}
 use Rattle.package.proofs.views.ReadPackage.procedure_count.Goals as goal
 
 pub returns : goal.returns
-returns c = c.field-count.ensures ∙ sym (length-map _ procedure_of)
+returns c = c.field_count.ensures ∙ sym (length-map _ procedure_of)
