@@ -5,4 +5,4 @@ use Rattle.instruction.proofs.decoding.first_word.Goals as goal
 
 pub returns : goal.returns
 unfolding word_of
-returns c = ap Some c.from-be-bytes.ensures ∙ sym (cond-false _ _ _ (le-ltb (length c.args.bytes.now) 4 (search rules)))
+returns c = ap Some c.from_be_bytes.ensures ∙ sym (cond-false _ _ _ (le-ltb (length c.args.bytes.now) 4 (search rules)))
