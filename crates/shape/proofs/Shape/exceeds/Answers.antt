@@ -5,8 +5,8 @@ use Rattle.shape.proofs.Shape.exceeds.Goals as goal
 pub loop-i-init : goal.loop-i-init
 loop-i-init c = (size_none, omega arith)
 
-pub overflow-add-size : goal.overflow-add-size
-overflow-add-size c = omega arith
+pub overflow_add-size : goal.overflow_add-size
+overflow_add-size c = omega arith
 
 pub loop-i-preserved : goal.loop-i-preserved
 loop-i-preserved c = (
