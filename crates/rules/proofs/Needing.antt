@@ -1,8 +1,7 @@
 -- Arguments taken one after another, and a mark's entries put one on another.
 use Rattle.std.proofs.Common.{◌≡◌, ℕ, zero, suc, ◌+◌, ◌-◌, ◌<◌, ◌≤◌, Bool, true, false, List, [], ◌∷◌, ◌++◌, reverse, length, take, drop, Some, None, Option, sym, refl, ap, ◌∙◌, arith, length-take}
-use lib.ListN.{length-reverse}
 use Rattle.std.specs.List.{slice_get}
-use Rattle.std.proofs.lemmas.List.{reverse-append}
+use Rattle.std.proofs.lemmas.List.{length-reverse, reverse-append}
 use Rattle.entries.specs.declared.Kind.{Kind}
 use Rattle.entries.specs.declared.Entry.{Entry}
 use Rattle.shape.specs.declared.Shape.{Shape}
@@ -30,6 +29,13 @@ pub nth_in : {A : Type 0} (xs : List A) (i : ℕ) → i < length xs → slice_ge
 nth_in [] i l e = absurd (omega arith)
 nth_in (x ∷ xs) zero l e = none-some (sym e)
 nth_in (x ∷ xs) (suc i) l e = nth_in xs i (omega arith) e
+
+-- where nothing stands, nothing goes behind
+pub take-past : {A : Type 0} (xs : List A) (i : ℕ) → slice_get xs i ≡ None → take (suc i) xs ≡ take i xs
+take-past [] zero e = refl
+take-past [] (suc i) e = refl
+take-past (x ∷ xs) zero e = absurd (none-some (sym e))
+take-past (x ∷ xs) (suc i) e = ap (λ ys. x ∷ ys) (take-past xs i e)
 
 -- the entry behind the first ones goes on top of their shape
 pub shape-more : (xs : List Entry) (i : ℕ) (a : Entry) → slice_get xs i ≡ Some a → reverse (take (suc i) xs) ≡ a ∷ reverse (take i xs)
@@ -59,11 +65,11 @@ pub pushed-few : (r : Bool) (e : Entry) (was after : Shape) → Pushed r e was a
 pushed-few true e was after p l = p.1
 pushed-few false e was after p l = absurd (omega (arith, p.0, l))
 
-pub told_more : (xs : List Entry) (i : ℕ) (a : Entry) (r : Bool) (was after : Shape) → slice_get xs i ≡ Some a → i < length xs → length xs ≤ 16 → stack_of was ≡ reverse (take i xs) → Pushed r a was after → stack_of after ≡ reverse (take (i + 1) xs)
-told_more xs i a r was after e l few h p =
+pub told_more : (xs : List Entry) (i : ℕ) (a : Entry) (r : Bool) (was after : Shape) → slice_get xs i ≡ Some a → i < 16 → stack_of was ≡ reverse (take i xs) → Pushed r a was after → stack_of after ≡ reverse (take (i + 1) xs)
+told_more xs i a r was after e few h p =
     let n : i + 1 ≡ suc i = omega arith in
     let m = ap length h ∙ length-reverse (take i xs) ∙ length-take i xs in
-    pushed-few r a was after p (omega (arith, m, l, few)) ∙ ap (λ σ. a ∷ σ) h ∙ sym (shape-more xs i a e) ∙ ap (λ k. reverse (take k xs)) (sym n)
+    pushed-few r a was after p (omega (arith, m, few)) ∙ ap (λ σ. a ∷ σ) h ∙ sym (shape-more xs i a e) ∙ ap (λ k. reverse (take k xs)) (sym n)
 
 -- a turn of the walk over the arguments, the last first
 pub arguments-turn : (ks : List Kind) (n : ℕ) (k : Kind) (σ τ : List Entry) → 0 < n → Some k ≡ slice_get ks (n - 1) → under_arguments (drop n ks) σ ≡ Some τ → under_arguments (drop (n - 1) ks) σ ≡ taken (argument k) τ

@@ -1,5 +1,5 @@
 -- What the rules ask a package for.
-use Rattle.std.specs.Prelude.{ℕ, Bool, ◌&&◌, List, reverse, length, Option, ◌==◌, nat_lt}
+use Rattle.std.specs.Prelude.{ℕ, Bool, ◌&&◌, List, reverse, length, take, Option, ◌==◌, nat_lt}
 use Rattle.std.specs.Option.{option_map}
 use Rattle.entries.specs.declared.Entry.{Entry}
 use Rattle.declarations.specs.Marks.{Mark, mark_at}
@@ -25,9 +25,9 @@ is_program p = p.offset == 0
 abbrev pub globals_size : Package → ℕ
 globals_size k = (program_of k.procedures).locals
 
--- the shape that a mark tells, the top first
+-- the shape that a mark tells, the top first: a shape has at most 16 entries, as has each mark that reading answers
 abbrev pub shape_of : Mark → List Entry
-shape_of m = reverse m.entries
+shape_of m = reverse (take 16 m.entries)
 
 abbrev pub mark_shape : Package → ℕ → Option (List Entry)
 mark_shape k x = option_map shape_of (mark_at k.marks x)

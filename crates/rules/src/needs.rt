@@ -12,7 +12,7 @@ use entries::Kind;
 use instruction::effects::{displaced, plain_entry};
 use instruction::{Effect, Flow, Want};
 use package::ReadPackage;
-use shape::Shape;
+use shape::{MOST_ENTRIES, Shape};
 
 // The shape before an instruction: a mark's, or else what falls in; before an opening the empty one.
 pub fn shape_before(opens: bool, mark: Option<Shape>, carry: Option<Shape>) -> Option<Shape>
@@ -118,12 +118,12 @@ pub fn mark_shape(read: &ReadPackage<'_>, at: usize) -> Option<Shape>
     Some(shape_told(&mark))
 }
 
-// The shape that a mark tells.
+// The shape that a mark tells: of more entries than a shape can hold, which reading refuses, the lowest would show.
 fn shape_told(mark: &MarkView<'_>) -> Shape
     ensures { stack_of result ≡ shape_of (mark_seen mark.now) }
 {
     let mut shape = Shape::empty();
-    for i in 0..mark.entry_count() {
+    for i in 0..MOST_ENTRIES {
         if let Some(entry) = mark.entry(i) {
             let _ = shape.push(entry);
         }
