@@ -59,10 +59,10 @@ loading k =
 
 pub record WorkedCases : Type 0 where
   pub no_bytes : said [] ≡ refused 5 0
-  pub sample-clears : said (sample 8 2 0) ≡ cleared
-  pub depth-of-7 : said (sample 7 2 0) ≡ refused 14 5
-  pub text-of-3 : said (sample 8 3 0) ≡ refused 12 14
-  pub last-byte-1 : said (sample 8 2 1) ≡ refused 7 32
-  pub local-8 : said (loading 8) ≡ cleared
-  pub local-9 : said (loading 9) ≡ refused 13 16
-  pub local-12 : said (loading 12) ≡ refused 13 11
+  pub sample_clears : said (sample 8 2 0) ≡ cleared
+  pub depth_of_7 : said (sample 7 2 0) ≡ refused 14 5
+  pub text_of_3 : said (sample 8 3 0) ≡ refused 12 14
+  pub last_byte_1 : said (sample 8 2 1) ≡ refused 7 32
+  pub local_8 : said (loading 8) ≡ cleared
+  pub local_9 : said (loading 9) ≡ refused 13 16
+  pub local_12 : said (loading 12) ≡ refused 13 11

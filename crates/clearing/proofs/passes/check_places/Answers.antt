@@ -7,18 +7,18 @@ use Rattle.clearing.proofs.passes.check_places.Goals as goal
 pub loop-at-init : goal.loop-at-init
 loop-at-init c = below_none _
 
-pub returns-then-is-misplaced : goal.returns-then-is-misplaced
-returns-then-is-misplaced c =
+pub returns-then-is_misplaced : goal.returns-then-is_misplaced
+returns-then-is_misplaced c =
     let k = package_seen c.args.read.now in
     let x = c.loop-at.at in
-    let l : x < length k.code = omega (arith, c.loop-at-test.true, ap length c.code-at-end.ensures.is) in
-    let s = c.is-start.ensures ∙ c.requires.starts x (omega (arith, l, c.requires.size)) in
-    record { answers = found _ x (length k.code) Misplaced l c.loop-at.invariant (misplaced-found k x c.is-start.result s (sym c.if-is-misplaced.ensures)) }
+    let l : x < length k.code = omega (arith, c.loop-at-test.true, ap length c.code-at-end.ensures) in
+    let s = c.is_start.ensures ∙ c.requires.starts x (omega (arith, l, c.requires.size)) in
+    record { answers = found _ x (length k.code) Misplaced l c.loop-at.invariant (misplaced-found k x c.is_start.result s (sym c.if-is_misplaced.ensures)) }
 
 pub loop-at-preserved : goal.loop-at-preserved
 loop-at-preserved c =
     let k = package_seen c.args.read.now in
     let x = c.loop-at.at in
-    let l : x < length k.code = omega (arith, c.loop-at-test.true, ap length c.code-at-end.ensures.is) in
-    let s = c.is-start.ensures ∙ c.requires.starts x (omega (arith, l, c.requires.size)) in
-    below_more _ x c.loop-at.invariant (placed-well k x c.is-start.result s (sym c.if-is-misplaced.ensures))
+    let l : x < length k.code = omega (arith, c.loop-at-test.true, ap length c.code-at-end.ensures) in
+    let s = c.is_start.ensures ∙ c.requires.starts x (omega (arith, l, c.requires.size)) in
+    below_more _ x c.loop-at.invariant (placed-well k x c.is_start.result s (sym c.if-is_misplaced.ensures))

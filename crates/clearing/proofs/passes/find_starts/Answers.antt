@@ -18,18 +18,18 @@ pub loop-at-init : goal.loop-at-init
 loop-at-init c =
     (sym (from-none _), below_none _, λ y l. absurd (omega (arith, l)), λ y l m. c.requires.blank y m, kept_refl _)
 
-pub returns-in-default : goal.returns-in-default
-returns-in-default c =
+pub returns-in_default : goal.returns-in_default
+returns-in_default c =
     let i = c.loop-at.invariant in
     let k = package_seen c.args.read.now in
     let x = c.loop-at.at in
-    let same = c.code-code.ensures.is in
-    let none = ap (λ xs. decoded xs x) (sym same) ∙ sym c.in-default.ensures.is in
+    let same = c.code-code.ensures in
+    let none = ap (λ xs. decoded xs x) (sym same) ∙ sym c.in_default.ensures.is in
     let s = starts-here k.code x c.loop-at.next i.0 c.if-at-next.true in
     record {
       answers = found _ x (length k.code) Undecoded (omega (arith, c.loop-at-test.true, ap length same)) i.1 (undecoded-none k x none s);
       starts = λ e. absurd (err-ok e);
-      kept = kept_trans i.4 c.set-start.ensures.kept;
+      kept = kept_trans i.4 c.set_start.ensures.kept;
     }
 
 pub loop-at-preserved : goal.loop-at-preserved
@@ -39,17 +39,17 @@ loop-at-preserved c =
     let x = c.loop-at.at in
     let n = c.loop-at.next in
     let t = c.loop-at.table in
-    let same = c.code-code.ensures.is in
+    let same = c.code-code.ensures in
     elim c.if-at-next.branch [
       | then-at-next+in-Some w ↦
           let d = w.in-Some.found in
           let e = ap (λ xs. decoded xs x) (sym same) ∙ sym w.in-Some.ensures.is in
-          let more = w.set-start.ensures.tells in
-          let kept = w.set-start.ensures.kept in (
+          let more = w.set_start.ensures.tells in
+          let kept = w.set_start.ensures.kept in (
             w.next-is ∙ next-behind k.code x n i.0 d w.if-at-next.true e,
             below_more _ x i.1 (decoded-some k x d e),
-            subst (λ (u : StartTable). TellsStarts k.code u (x + 1)) (sym w.table-is) (tells-start k.code x n i.0 t i.2 w.set-start.new.self w.if-at-next.true more),
-            subst (λ (u : StartTable). BlankFrom u (x + 1)) (sym w.table-is) (blank-more x t w.set-start.new.self i.3 more kept.size),
+            subst (λ (u : StartTable). TellsStarts k.code u (x + 1)) (sym w.table-is) (tells-start k.code x n i.0 t i.2 w.set_start.new.self w.if-at-next.true more),
+            subst (λ (u : StartTable). BlankFrom u (x + 1)) (sym w.table-is) (blank-more x t w.set_start.new.self i.3 more kept.size),
             subst (λ (u : StartTable). Kept c.args.table.now u) (sym w.table-is) (kept_trans i.4 kept),
           )
       | else-at-next w ↦
