@@ -1,5 +1,5 @@
 -- The first place at which a rule is found broken, along a loop.
-use Rattle.std.proofs.Common.{◌≡◌, ℕ, zero, suc, ◌+◌, ◌<◌, ◌≤◌, Bool, true, false, cond, not, ◌&&◌, List, [], ◌∷◌, length, is_some, Some, None, Ok, Err, Option, sym, refl, ap, ◌∙◌, inl, inr, ⊎_elim, arith}
+use Rattle.std.proofs.Common.{◌≡◌, ℕ, zero, suc, ◌+◌, ◌<◌, ◌≤◌, Bool, true, false, cond, not, [], ◌∷◌, is_some, Some, None, Ok, Err, Option, sym, refl, ap, ◌∙◌, ⊎_elim, arith}
 use Rattle.std.proofs.lemmas.Bool.{and_from, and_left, and_right, cases_eq, cond-false, cond-true, not_from_false, not_from_true}
 use Rattle.package.specs.Package.{Package}
 use Rattle.instruction.specs.declared.decoding.Decoded.{Decoded}
@@ -10,7 +10,7 @@ use Rattle.rules.specs.Places.{misplaced}
 use Rattle.rules.specs.Sites.{lowest}
 use Rattle.rules.specs.Starts.{is_start}
 use Rattle.verdict.specs.declared.ClearFault.TheVariants.{Broken}
-use Rattle.verdict.specs.Breaking.{Breach, breach_at, breaks, first_below, first_breach, or_else}
+use Rattle.verdict.specs.Breaking.{Breach, breach_at, breaks, first_below, or_else}
 use Rattle.clearing.specs.Passing.{passed}
 
 module _ (f : ℕ → Option Rule) where

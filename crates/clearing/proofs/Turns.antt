@@ -1,5 +1,5 @@
 -- One offset of the pass over instructions.
-use Rattle.std.proofs.Common.{◌≡◌, ℕ, zero, suc, ◌+◌, Bool, true, false, cond, List, [], ◌∷◌, Some, None, Ok, Err, Option, Result, sym, refl, ap, ◌∙◌, arith}
+use Rattle.std.proofs.Common.{◌≡◌, ℕ, suc, ◌+◌, Bool, true, false, cond, List, Some, None, Ok, Err, Option, Result, sym, refl, ap, ◌∙◌, arith}
 use Rattle.std.specs.Option.{option_map}
 use Rattle.entries.specs.declared.Entry.{Entry}
 use Rattle.package.specs.Package.{Package}
@@ -11,7 +11,7 @@ use Rattle.rules.specs.Sites.{broken_at, instruction_rules, lowest, onward, site
 use Rattle.rules.specs.Judging.{judged_at, settled}
 use Rattle.rules.specs.Starts.{is_start}
 use Rattle.rules.proofs.Starting.{carried_none, carried-turn}
-use Rattle.verdict.specs.Breaking.{breaks, breaks_there, falls_into, passed_on, site_in}
+use Rattle.verdict.specs.Breaking.{breaks, falls_into, passed_on}
 
 pub err-ok : {A B : Type 0} {a : A} {b : B} → ◌≡◌ {A = Result A B} (Err b) (Ok a) → ⊥
 err-ok e = absurd (let z : ◌≡◌ {A = ℕ} 0 1 = cc in omega arith)

@@ -1,5 +1,5 @@
 -- Entries are the same exactly when they are equal.
-use Rattle.std.proofs.Common.{◌≡◌, ℕ, true, cond, eqb, sym, refl, ap, ◌∙◌, arith}
+use Rattle.std.proofs.Common.{◌≡◌, ℕ, true, cond, eqb, sym, refl, ap, ◌∙◌}
 use Rattle.std.proofs.lemmas.Bool.{and_from, and_parts, eq-eqb, eqb-true}
 use Rattle.entries.specs.declared.EntryKind.{EntryKind}
 use Rattle.entries.specs.declared.EntryKind.TheVariants.{Byte, Char, Int, Local, Global, Text}

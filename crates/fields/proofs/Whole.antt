@@ -1,6 +1,6 @@
 -- Fields as bytes: a field is cut off again as it was put together.
 use Rattle.std.proofs.Common.{◌≡◌, ℕ, ◌+◌, ◌*◌, ◌/◌, ◌%◌, ◌<◌, ◌≤◌, List, [], ◌∷◌, ◌++◌, map, length, get_or, take, drop, Some, sym, refl, ap, ◌∙◌, subst, arith, length-append}
-use Rattle.std.specs.List.{flat_map, AllByRecursion as All}
+use Rattle.std.specs.List.{flat_map, AllByRecursion}
 use Rattle.std.proofs.lemmas.List.{take_at, drop_at, take-append-drop, length-take-le}
 use Rattle.std.proofs.ByRecursion.{All-take, All-drop}
 use Rattle.fields.specs.Bytes.{two, two_bytes}
@@ -10,7 +10,7 @@ use Rattle.fields.proofs.Bodies.{bodies-end, bodies-more}
 
 -- a list of bytes
 abbrev pub Bytes : List ℕ → Type 0
-Bytes xs = All (λ b. b < 256) xs
+Bytes xs = AllByRecursion (λ b. b < 256) xs
 
 -- the two bytes of a number, and the number of two bytes
 pub two_back : (h l : ℕ) → l < 256 → two_bytes (h * 256 + l) ≡ h ∷ (l ∷ [])

@@ -1,8 +1,7 @@
 -- A line of the table, found by its form.
-use Rattle.std.proofs.Common.{◌≡◌, ℕ, ◌+◌, ◌<◌, ◌≤◌, cond, eqb, ltb, List, length, get_or, drop, Some, None, Option, sym, refl, ap, ◌∙◌, subst, arith}
+use Rattle.std.proofs.Common.{◌≡◌, ℕ, ◌+◌, ◌<◌, ◌≤◌, List, length, get_or, drop, Some, None, Option, sym, refl, ap, ◌∙◌, subst, arith}
 use mathlib.Core.Path.{fun_ext}
-use Rattle.std.proofs.lemmas.Bool.{cond-true, cond-false, eq-eqb, lt-ltb, le-ltb}
-use Rattle.instruction.specs.declared.decoding.Decoded.{Decoded}
+use Rattle.std.proofs.lemmas.Bool.{cond-true, cond-false, lt-ltb, le-ltb}
 use Rattle.instruction.specs.declared.decoding.Form.{Form}
 use Rattle.instruction.specs.declared.decoding.Form.TheVariants as form
 use Rattle.instruction.specs.declared.operations.Instruction.{Instruction}

@@ -1,6 +1,6 @@
 -- Fronts of the bytes: the places that reading comes to over good fields.
 use Rattle.std.proofs.Common.{◌≡◌, ℕ, ◌+◌, ◌<◌, ◌≤◌, Bool, true, false, cond, not, eqb, ltb, ◌⊎◌, List, [], ◌∷◌, ◌++◌, length, Some, None, Ok, Err, Option, Result, sym, refl, ap, ◌∙◌, subst, inl, inr, arith, length-append}
-use Rattle.std.specs.List.{flat_map, AllByRecursion as All}
+use Rattle.std.specs.List.{flat_map, AllByRecursion}
 use Rattle.std.proofs.lemmas.List.{append_assoc, append-nil, nil_from_length}
 use Rattle.std.proofs.lemmas.Bool.{cond-true, cond-false, eq-eqb, ne_eqb, eqb-true, eqb-false, ltb-false, or_parts, not-false, cases_eq}
 use Rattle.package.specs.declared.faults.ReadFault.{ReadFault}
@@ -55,7 +55,7 @@ module _ (size count last marked : ℕ) (marks : List Mark) (p : ℕ) (f : Cut) 
       ap (judged size count last marked marks p) w.there
       ∙ (cond-false _ _ _ w.tag ∙ (cond-false _ _ _ w.shape ∙ cond-false _ _ _ w.fit))
 
-all-behind : {A : Type 0} (P : A → Type 0) (xs ys : List A) → All P (xs ++ ys) → All P ys
+all-behind : {A : Type 0} (P : A → Type 0) (xs ys : List A) → AllByRecursion P (xs ++ ys) → AllByRecursion P ys
 all-behind P [] ys a = a
 all-behind P (x ∷ xs) ys (h, a) = all-behind P xs ys a
 

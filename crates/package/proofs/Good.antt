@@ -1,6 +1,6 @@
 -- Good fields: what the tests of reading say in the words of the format.
 use Rattle.std.proofs.Common.{◌≡◌, ℕ, ◌+◌, ◌-◌, ◌*◌, ◌%◌, ◌<◌, ◌≤◌, true, false, not, eqb, ltb, leb, ◌⊎◌, List, [], ◌∷◌, ◌++◌, map, length, get_or, take, drop, is_some, None, sym, refl, ap, ◌∙◌, subst, inl, inr, arith, length-drop}
-use Rattle.std.specs.List.{AllByRecursion as All}
+use Rattle.std.specs.List.{AllByRecursion}
 use Rattle.std.proofs.lemmas.List.{append_assoc, append-nil, length-map, length-take, drop_all}
 use Rattle.std.proofs.ByRecursion.{All-append, All-weaker, All-drop}
 use Rattle.std.proofs.lemmas.Bool.{cond-true, cond-false, eq-eqb, ne_eqb, eqb-true, lt-leb, leb-false, le-ltb, ltb-false, true≢false, or_parts, or_from, not-false, not_from_true, cases_eq}
@@ -48,7 +48,7 @@ module _ {A : Type 0} (P : List A → A → Type 0) where
   pub each-front : (xs ys : List A) → EachAfter P (xs ++ ys) → EachAfter P xs
   each-front xs ys e = (each-split [] xs ys e).0
 
-  pub each_all : (Q : A → Type 0) → ((before : List A) (x : A) → P before x → Q x) → (before xs : List A) → EachFrom P before xs → All Q xs
+  pub each_all : (Q : A → Type 0) → ((before : List A) (x : A) → P before x → Q x) → (before xs : List A) → EachFrom P before xs → AllByRecursion Q xs
   unfolding EachFrom
   each_all Q w before [] e = tt
   each_all Q w before (x ∷ xs) (p, e) = (w before x p, each_all Q w (before ++ (x ∷ [])) xs e)
@@ -65,28 +65,28 @@ last-offset = last-push
 
 -- those that rise are all at the last offset or before
 module _ (size : ℕ) where
-  up-to-last : (before ps : List Procedure) → All (λ q. q.offset ≤ last_offset before) before → EachFrom (GoodProcedure size) before ps → All (λ q. q.offset ≤ last_offset (before ++ ps)) (before ++ ps)
+  up-to-last : (before ps : List Procedure) → AllByRecursion (λ q. q.offset ≤ last_offset before) before → EachFrom (GoodProcedure size) before ps → AllByRecursion (λ q. q.offset ≤ last_offset (before ++ ps)) (before ++ ps)
   unfolding EachFrom
-  up-to-last before [] a e = subst (λ (zs : List Procedure). All (λ q. q.offset ≤ last_offset zs) zs) (sym (append-nil before)) a
+  up-to-last before [] a e = subst (λ (zs : List Procedure). AllByRecursion (λ q. q.offset ≤ last_offset zs) zs) (sym (append-nil before)) a
   up-to-last before (p ∷ ps) a (g, e) =
       let l = last-push before p in
-      let here : All (λ q. q.offset ≤ last_offset (before ++ (p ∷ []))) (before ++ (p ∷ [])) =
-      subst (λ (n : ℕ). All (λ q. q.offset ≤ n) (before ++ (p ∷ []))) (sym l)
+      let here : AllByRecursion (λ q. q.offset ≤ last_offset (before ++ (p ∷ []))) (before ++ (p ∷ [])) =
+      subst (λ (n : ℕ). AllByRecursion (λ q. q.offset ≤ n) (before ++ (p ∷ []))) (sym l)
       (All-append (λ q. q.offset ≤ p.offset) before (p ∷ []) (All-weaker (λ q. q.offset < p.offset) (λ q. q.offset ≤ p.offset) (λ q h. omega arith) before g.rises) (omega arith, tt)) in
-      subst (λ (zs : List Procedure). All (λ q. q.offset ≤ last_offset zs) zs) (append_assoc before (p ∷ []) ps) (up-to-last (before ++ (p ∷ [])) ps here e)
+      subst (λ (zs : List Procedure). AllByRecursion (λ q. q.offset ≤ last_offset zs) zs) (append_assoc before (p ∷ []) ps) (up-to-last (before ++ (p ∷ [])) ps here e)
 
-  pub all-below : (ps : List Procedure) (x : ℕ) → EachAfter (GoodProcedure size) ps → last_offset ps < x → All (λ q. q.offset < x) ps
+  pub all-below : (ps : List Procedure) (x : ℕ) → EachAfter (GoodProcedure size) ps → last_offset ps < x → AllByRecursion (λ q. q.offset < x) ps
   all-below ps x e l = All-weaker (λ q. q.offset ≤ last_offset ps) (λ q. q.offset < x) (λ q h. omega arith) ps (up-to-last [] ps tt e)
 
 -- the last of them is one of them
-pub last-below : (ps : List Procedure) (x : ℕ) → All (λ q. q.offset < x) ps → (ps ≡ [] → ⊥) → last_offset ps < x
+pub last-below : (ps : List Procedure) (x : ℕ) → AllByRecursion (λ q. q.offset < x) ps → (ps ≡ [] → ⊥) → last_offset ps < x
 unfolding last_offset
 last-below [] x a n = absurd (n refl)
 last-below (p ∷ []) x (h, a) n = h
 last-below (p ∷ q ∷ ps) x (h, a) n = last-below (q ∷ ps) x a (λ e. let z : ◌≡◌ {A = ℕ} 0 1 = cc in omega arith)
 
 -- no mark is found where none has the offset
-pub mark-absent : (ms : List Mark) (x : ℕ) → All (λ m. m.offset ≡ x → ⊥) ms → is_some (mark_at ms x) ≡ false
+pub mark-absent : (ms : List Mark) (x : ℕ) → AllByRecursion (λ m. m.offset ≡ x → ⊥) ms → is_some (mark_at ms x) ≡ false
 unfolding mark_at
 mark-absent [] x a = refl
 mark-absent (m ∷ ms) x (h, a) = ap is_some (cond-false _ _ _ (ne_eqb m.offset x h)) ∙ mark-absent ms x a
@@ -99,7 +99,7 @@ alone-parts m ms x e = go (cases_eq m.offset x)
     go (inl h) = absurd (true≢false (sym (ap is_some (cond-true _ _ _ (eq-eqb m.offset x h))) ∙ e))
     go (inr h) = (h, sym (ap is_some (cond-false _ _ _ (ne_eqb m.offset x h))) ∙ e)
 
-pub mark-alone : (ms : List Mark) (x : ℕ) → is_some (mark_at ms x) ≡ false → All (λ m. m.offset ≡ x → ⊥) ms
+pub mark-alone : (ms : List Mark) (x : ℕ) → is_some (mark_at ms x) ≡ false → AllByRecursion (λ m. m.offset ≡ x → ⊥) ms
 mark-alone [] x e = tt
 mark-alone (m ∷ ms) x e = let p = alone-parts m ms x e in (p.0, mark-alone ms x p.1)
 
@@ -197,7 +197,7 @@ procedure-fits size ps body each l f =
         let k = l.exact in
         (o, ap result_of r, ap (λ (xs : List ℕ). map kind_of (take 8 xs)) (drop_all 8 body (omega arith)))
 
-    rises : (qs : List Procedure) → EachAfter (GoodProcedure size) qs → out_of_turn (length qs) (last_offset qs) body ≡ false → All (λ q. q.offset < two body 0) qs
+    rises : (qs : List Procedure) → EachAfter (GoodProcedure size) qs → out_of_turn (length qs) (last_offset qs) body ≡ false → AllByRecursion (λ q. q.offset < two body 0) qs
     rises [] a e = tt
     rises (q ∷ qs) a e = all-below size (q ∷ qs) (two body 0) a (later-turn (last_offset (q ∷ qs)) body (length (q ∷ qs)) (λ z. omega arith) e)
 
@@ -234,7 +234,7 @@ procedure-fit size ps p g =
       turn = turn ps g.program g.rises;
     })
   where
-    turn : (qs : List Procedure) → (qs ≡ [] → (p.offset ≡ 0) × (p.result ≡ None) × (p.parameters ≡ [])) → All (λ q. q.offset < p.offset) qs → out_of_turn (length qs) (last_offset qs) (procedure_body p) ≡ false
+    turn : (qs : List Procedure) → (qs ≡ [] → (p.offset ≡ 0) × (p.result ≡ None) × (p.parameters ≡ [])) → AllByRecursion (λ q. q.offset < p.offset) qs → out_of_turn (length qs) (last_offset qs) (procedure_body p) ≡ false
     turn [] program rises =
         let f = program refl in
         or_from (not (eqb (two (procedure_body p) 0) 0)) _ (not_from_true _ (eq-eqb (two (procedure_body p) 0) 0 (two-there p.offset ∙ f.0)))

@@ -1,6 +1,6 @@
 -- What is encoded is decoded again, and what is decoded from good bytes is encoded in the same.
 use Rattle.std.proofs.Common.{◌≡◌, ℕ, ◌+◌, ◌-◌, ◌*◌, ◌%◌, ◌<◌, ◌≤◌, Bool, true, false, cond, ◌||◌, eqb, leb, ◌⊎◌, List, [], ◌∷◌, ◌++◌, map, length, get_or, take, drop, Some, None, Option, sym, refl, ap, ◌∙◌, subst, inl, inr, arith}
-use Rattle.std.specs.List.{flat_map, AllByRecursion as All}
+use Rattle.std.specs.List.{flat_map, AllByRecursion}
 use Rattle.std.proofs.lemmas.List.{take_all, length-map}
 use Rattle.std.proofs.lemmas.Bool.{cond-true, cond-false, eq-eqb, eqb-true, le-leb, true≢false, or_cases, cases_Bool, leb-true, cases_lt, lt-ltb, le-ltb}
 use Rattle.entries.specs.declared.Kind.{Kind}
@@ -207,7 +207,7 @@ entries-back (b ∷ h ∷ l ∷ xs) (fb, (fh, (fl, f))) e m =
     let rest = entries-back xs f p.1 (omega arith) in
     ap (λ (ys : List ℕ). ys ++ flat_map entry_bytes (entries_of xs)) here ∙ ap (λ (ys : List ℕ). b ∷ h ∷ l ∷ ys) rest
 
-pub entries-good : (xs : List ℕ) → Bytes xs → are_entries xs ≡ true → All GoodEntry (entries_of xs)
+pub entries-good : (xs : List ℕ) → Bytes xs → are_entries xs ≡ true → AllByRecursion GoodEntry (entries_of xs)
 unfolding entries_of
 entries-good [] f e = tt
 entries-good (b ∷ []) f e = tt
@@ -216,7 +216,7 @@ entries-good (b ∷ h ∷ l ∷ xs) (fb, (fh, (fl, f))) e =
     let p = entries-parts b h l xs e in
     (entry-good b (h * 256 + l) (omega arith) p.0, entries-good xs f p.1)
 
-pub entries-there : (es : List Entry) → All GoodEntry es → entries_of (flat_map entry_bytes es) ≡ es
+pub entries-there : (es : List Entry) → AllByRecursion GoodEntry es → entries_of (flat_map entry_bytes es) ≡ es
 unfolding entries_of
 entries-there [] g = refl
 entries-there (e ∷ es) (g, gs) =
@@ -224,7 +224,7 @@ entries-there (e ∷ es) (g, gs) =
     let r = entries-there es gs in
     cc
 
-pub entries-are : (es : List Entry) → All GoodEntry es → are_entries (flat_map entry_bytes es) ≡ true
+pub entries-are : (es : List Entry) → AllByRecursion GoodEntry es → are_entries (flat_map entry_bytes es) ≡ true
 unfolding are_entries
 entries-are [] g = refl
 entries-are (e ∷ es) (g, gs) =
@@ -273,7 +273,7 @@ procedure-back (a ∷ b ∷ c ∷ d ∷ e ∷ g ∷ h ∷ i ∷ ks) (fa, (fb, (f
 same-mark : (o o' : ℕ) (e e' : List Entry) → o ≡ o' → e ≡ e' → ◌≡◌ {A = Mark} (record { offset = o; entries = e }) (record { offset = o'; entries = e' })
 same-mark o o' e e' eo ee = cc
 
-pub mark-there : (m : Mark) → All GoodEntry m.entries → mark_of (mark_body m) ≡ m
+pub mark-there : (m : Mark) → AllByRecursion GoodEntry m.entries → mark_of (mark_body m) ≡ m
 mark-there m g =
     cond-false _ _ _ (le-ltb (length (mark_body m)) 2 (omega arith))
     ∙ same-mark _ _ _ _ (two-there m.offset) (entries-there m.entries g)

@@ -1,6 +1,6 @@
 -- The numbers that reading keeps are those of the fields that it has passed.
 use Rattle.std.proofs.Common.{◌≡◌, ℕ, ◌+◌, ◌-◌, ◌≤◌, false, ◌⊎◌, List, [], ◌∷◌, ◌++◌, map, length, take, drop, Ok, sym, refl, ap, ◌∙◌, subst, subst₂, inl, inr, arith, length-append}
-use Rattle.std.specs.List.{flat_map, AllByRecursion as All}
+use Rattle.std.specs.List.{flat_map, AllByRecursion}
 use Rattle.std.proofs.lemmas.List.{append_assoc, append-nil, take_at, drop_at, length_push, nil_from_length}
 use Rattle.std.proofs.lemmas.Bool.{cond-true, cond-false, eq-eqb, ne_eqb, le-ltb}
 use Rattle.package.specs.declared.reading.Tally.{Tally}
@@ -23,7 +23,7 @@ use Rattle.package.proofs.Fronts.{At, start, next, passed, Passed, at_front, pla
 
 -- the fields of good procedures and of good marks show them
 
-there-all : {A : Type 0} (f : List ℕ → A) (g : A → List ℕ) (items : List A) → All (λ a. f (g a) ≡ a) items → map f (map g items) ≡ items
+there-all : {A : Type 0} (f : List ℕ → A) (g : A → List ℕ) (items : List A) → AllByRecursion (λ a. f (g a) ≡ a) items → map f (map g items) ≡ items
 there-all f g [] a = refl
 there-all f g (x ∷ items) (h, a) = let r = there-all f g items a in cc
 

@@ -1,6 +1,6 @@
 -- The format: the bytes of a package, and which packages are valid.
 use Rattle.std.specs.Prelude.{◌≡◌, ℕ, ◌<◌, ◌≤◌, List, [], ◌∷◌, ◌++◌, map, length, None, ◌≢◌}
-use Rattle.std.specs.List.{flat_map, AllByRecursion as All}
+use Rattle.std.specs.List.{flat_map, AllByRecursion}
 use Rattle.fields.specs.Bytes.{two_bytes}
 use Rattle.fields.specs.Fields.{field_bytes}
 use Rattle.entries.specs.Sizes.{size_of}
@@ -51,14 +51,14 @@ pub record GoodProcedure (size : ℕ) (before : List Procedure) (p : Procedure) 
   pub depth : p.depth ≤ 2000
   pub parameters : length p.parameters ≤ 8
   pub program : before ≡ [] → (p.offset ≡ 0) × (p.result ≡ None) × (p.parameters ≡ [])
-  pub rises : All (λ q. q.offset < p.offset) before
+  pub rises : AllByRecursion (λ q. q.offset < p.offset) before
 
 -- A mark that may stand behind some others: it marks a place in the code, within the limits; no two share an offset.
 pub record GoodMark (size : ℕ) (before : List Mark) (m : Mark) : Type 0 where
   pub inside : m.offset < size
   pub few : length m.entries ≤ 16
-  pub entries : All GoodEntry m.entries
-  pub alone : All (λ n. n.offset ≢ m.offset) before
+  pub entries : AllByRecursion GoodEntry m.entries
+  pub alone : AllByRecursion (λ n. n.offset ≢ m.offset) before
 
 -- Every field of the package is good after those before it. Fields may still be wanting.
 pub record Sound (k : Package) : Type 0 where

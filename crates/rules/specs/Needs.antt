@@ -1,5 +1,5 @@
 -- What an instruction needs on the shape before it, and what is there without that.
-use Rattle.std.specs.Prelude.{ℕ, Bool, true, false, cond, not, List, [], ◌∷◌, Some, None, Option}
+use Rattle.std.specs.Prelude.{ℕ, Bool, false, cond, not, List, [], ◌∷◌, Some, None, Option}
 use Rattle.entries.specs.declared.Kind.{Kind}
 use Rattle.entries.specs.declared.Entry.{Entry}
 use Rattle.entries.specs.Alike.{same_entry}
@@ -9,7 +9,6 @@ use Rattle.instruction.specs.declared.effects.Want.{Want}
 use Rattle.instruction.specs.declared.effects.Want.TheVariants.{Exactly}
 use Rattle.instruction.specs.declared.effects.Flow.{Flow}
 use Rattle.instruction.specs.declared.effects.Flow.TheVariants as flow
-use Rattle.instruction.specs.declared.effects.Effect.{Effect}
 use Rattle.instruction.specs.Effects.{displaced_by, plain_entry}
 use Rattle.shape.specs.Shapes.{same_shape, taken, top_of}
 use Rattle.rules.specs.Asking.{procedure_at}

@@ -1,5 +1,5 @@
 -- Shapes are the same exactly when they are equal.
-use Rattle.std.proofs.Common.{◌≡◌, true, List, [], ◌∷◌, sym, refl, ap, ◌∙◌}
+use Rattle.std.proofs.Common.{◌≡◌, true, List, [], ◌∷◌, refl, ap, ◌∙◌}
 use Rattle.std.proofs.lemmas.Bool.{and_from, and_parts, false≢true}
 use Rattle.entries.specs.declared.Entry.{Entry}
 use Rattle.entries.specs.Alike.{same_entry}

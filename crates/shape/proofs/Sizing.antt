@@ -1,5 +1,5 @@
 -- The bytes that a shape's entries take.
-use Rattle.std.proofs.Common.{◌≡◌, ℕ, ◌+◌, ◌<◌, ◌≤◌, ltb, List, [], reverse, length, get_or, take, refl, ap, arith}
+use Rattle.std.proofs.Common.{◌≡◌, ℕ, ◌+◌, ◌<◌, ltb, List, [], reverse, length, get_or, take, refl, ap, arith}
 use Rattle.entries.specs.declared.Entry.{Entry}
 use Rattle.entries.specs.Sizes.{entry_size}
 use Rattle.shape.specs.declared.Shape.{Shape}

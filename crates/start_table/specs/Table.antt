@@ -1,5 +1,5 @@
 -- The table of starts.
-use Rattle.std.specs.Prelude.{◌≡◌, ℕ, ◌<◌, Bool, true, false, List, length, ◌==◌, ◌≢◌, slice_index}
+use Rattle.std.specs.Prelude.{◌≡◌, ℕ, ◌<◌, Bool, true, false, List, ◌==◌, ◌≢◌, slice_index}
 use Rattle.std.specs.Borrow.{MutBor}
 use Rattle.start_table.specs.declared.StartTable.{StartTable}
 use Rattle.start_table.specs.Wiping.{wiped}

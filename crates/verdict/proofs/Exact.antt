@@ -1,12 +1,12 @@
 -- The answers of clearing are exact.
-use Rattle.std.proofs.Common.{◌≡◌, ℕ, ◌<◌, ◌≤◌, Bool, true, false, cond, ltb, List, length, Some, None, Err, Option, sym, refl, ap, ◌∙◌}
+use Rattle.std.proofs.Common.{◌≡◌, ℕ, ◌≤◌, Bool, true, false, cond, ltb, List, length, Some, None, Err, Option, sym, refl, ◌∙◌}
 use Rattle.std.proofs.lemmas.Bool.{false≢true, ltb-false, ltb-true}
 use Rattle.entries.specs.declared.Entry.{Entry}
 use Rattle.package.specs.Package.{Package}
 use Rattle.verdict.specs.declared.ClearFault.TheVariants.{WorkTooShort}
 use Rattle.verdict.specs.Answers.{Cleared, ClearsExactly, FirstBroken, clearing, ruled}
 use Rattle.verdict.specs.Assignment.{Clears}
-use Rattle.verdict.specs.Breaking.{Breach, Soonest, Unbroken, breaks, verdict}
+use Rattle.verdict.specs.Breaking.{Breach, Soonest, Unbroken, verdict}
 use Rattle.verdict.proofs.Here.{shape_at}
 use Rattle.verdict.proofs.Holding.{holding, one-assignment}
 use Rattle.verdict.proofs.Laws.{no-breach, some-breach}

@@ -1,7 +1,7 @@
 -- An instruction where it stands, among what falls from start to start.
-use Rattle.std.proofs.Common.{◌≡◌, ℕ, ◌<◌, ◌≤◌, Bool, true, false, cond, not, ◌&&◌, eqb, List, [], length, is_some, Some, None, Option, sym, refl, ap, ◌∙◌, subst, inl, inr, arith}
+use Rattle.std.proofs.Common.{◌≡◌, ℕ, ◌<◌, false, cond, not, List, [], length, is_some, Some, None, Option, sym, refl, ap, ◌∙◌, inl, inr, arith}
 use Rattle.std.specs.Option.{option_map}
-use Rattle.std.proofs.lemmas.Bool.{and_cases, and_from, false≢true, ne_eqb, not-false, not_from_false}
+use Rattle.std.proofs.lemmas.Bool.{and_cases, false≢true, ne_eqb, not-false}
 use Rattle.entries.specs.declared.Entry.{Entry}
 use Rattle.package.specs.Package.{Package}
 use Rattle.declarations.proofs.Owners.{owner-le}
@@ -9,14 +9,13 @@ use Rattle.instruction.specs.declared.decoding.Decoded.{Decoded}
 use Rattle.instruction.specs.Decoding.{decoded}
 use Rattle.instruction.specs.Effects.{falls}
 use Rattle.instruction.proofs.Forward.{forward}
-use Rattle.shape.specs.Shapes.{left}
 use Rattle.rules.specs.declared.rule.Rule.{Rule}
 use Rattle.rules.specs.declared.rule.Rule.TheVariants as rule
 use Rattle.rules.specs.Asking.{mark_shape, opens_at, procedure_at}
 use Rattle.rules.specs.Starts.{Start, first, next, is_start}
 use Rattle.rules.specs.Needs.{and_then, shape_before}
 use Rattle.rules.specs.Sites.{Site, broken_at, onward, site_at, some}
-use Rattle.rules.proofs.Starting.{carried_none, carry-next, is-start, start_is}
+use Rattle.rules.proofs.Starting.{carried_none, carry-next, is-start}
 use Rattle.rules.proofs.Needing.{none-some}
 use Rattle.verdict.specs.Assignment.{FallsTo, effect_in}
 use Rattle.verdict.specs.Breaking.{Unbroken, breaks, breaks_there, falls_into, passed_on, site_in}

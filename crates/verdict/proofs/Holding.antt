@@ -1,5 +1,5 @@
 -- Where shapes meet the rules, no rule is broken, and there are no other such shapes.
-use Rattle.std.proofs.Common.{◌≡◌, ℕ, zero, suc, ◌<◌, ◌≤◌, Bool, true, false, cond, not, ◌&&◌, ◌||◌, eqb, ltb, ◌⊎◌, List, [], length, is_some, Some, None, Option, sym, refl, ap, ◌∙◌, subst, inl, inr, arith}
+use Rattle.std.proofs.Common.{◌≡◌, ℕ, zero, suc, ◌<◌, Bool, true, false, not, ◌&&◌, ◌||◌, eqb, ◌⊎◌, List, [], length, is_some, Some, None, sym, refl, ap, ◌∙◌, subst, inl, inr, arith}
 use Rattle.std.specs.Option.{option_map}
 use Rattle.std.proofs.lemmas.Bool.{and_from, and_left, and_right, cases_Bool, cond-false, cond-true, eq-eqb, le-ltb, lt-ltb, ne_eqb, not_from_false, not_from_true, or_from}
 use Rattle.entries.specs.declared.Entry.{Entry}
@@ -11,7 +11,7 @@ use Rattle.instruction.specs.declared.decoding.Decoded.{Decoded}
 use Rattle.instruction.specs.Decoding.{decoded}
 use Rattle.instruction.specs.Effects.{callee_of, falls, target_of}
 use Rattle.instruction.proofs.Forward.{forward}
-use Rattle.shape.specs.Shapes.{left, same_shape, shape_size, taken, top_of}
+use Rattle.shape.specs.Shapes.{left, same_shape, taken, top_of}
 use Rattle.shape.proofs.Equal.{shape_same}
 use Rattle.rules.specs.declared.rule.Rule.{Rule}
 use Rattle.rules.specs.declared.rule.Rule.TheVariants as rule
@@ -20,10 +20,10 @@ use Rattle.rules.specs.Starts.{Start, first, next, is_start}
 use Rattle.rules.specs.Places.{flow_in, is_opening, misplaced_as, opens_as}
 use Rattle.rules.specs.Needs.{and_then, mark_or, under_upper, unlike}
 use Rattle.rules.specs.Regions.{strays}
-use Rattle.rules.specs.Sites.{broken_at, left_by, no_callee, no_mark, onward, site_at, some, too_deep, unlike_target}
+use Rattle.rules.specs.Sites.{broken_at, left_by, no_callee, no_mark, site_at, some, too_deep, unlike_target}
 use Rattle.rules.proofs.Needing.{some_same}
 use Rattle.rules.proofs.Starting.{is-start, start_is}
-use Rattle.verdict.specs.Assignment.{Arrives, Clears, FallsTo, Meets, effect_in}
+use Rattle.verdict.specs.Assignment.{Arrives, Clears, Meets, effect_in}
 use Rattle.verdict.specs.Breaking.{Unbroken, breaks, breaks_there, falls_into}
 use Rattle.verdict.proofs.Options.{none_or_some, some_of}
 use Rattle.verdict.proofs.Here.{breaks-here, falls-first, falls-next, here}

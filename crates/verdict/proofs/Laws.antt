@@ -1,12 +1,12 @@
 -- The verdict names the soonest breach.
-use Rattle.std.proofs.Common.{◌≡◌, ℕ, ◌+◌, ◌<◌, true, false, ◌⊎◌, List, [], ◌∷◌, length, Some, None, Option, sym, refl, ap, ◌∙◌, subst, inl, inr, ⊎_elim, arith}
+use Rattle.std.proofs.Common.{◌≡◌, ℕ, ◌+◌, ◌<◌, false, ◌⊎◌, List, [], ◌∷◌, length, Some, None, Option, sym, refl, ap, ◌∙◌, subst, inl, inr, ⊎_elim, arith}
 use Rattle.std.proofs.lemmas.Bool.{cases_eq, false≢true}
 use Rattle.package.specs.Package.{Package}
 use Rattle.rules.specs.declared.rule.Rule.{Rule}
 use Rattle.rules.specs.declared.rule.Rule.TheVariants as rule
 use Rattle.rules.specs.Sites.{instruction_rules}
 use Rattle.rules.proofs.Lowest.{Among}
-use Rattle.rules.proofs.Needing.{none-some, some_same}
+use Rattle.rules.proofs.Needing.{none-some}
 use Rattle.verdict.specs.Breaking.{Breach, Soonest, Unbroken, breaks, or_else, round, verdict}
 use Rattle.verdict.proofs.Firsts.{Passed, passed}
 

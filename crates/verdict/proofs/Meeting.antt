@@ -1,5 +1,5 @@
 -- Where no rule is broken, the shapes that the rules tell meet them.
-use Rattle.std.proofs.Common.{◌≡◌, ℕ, ◌<◌, ◌≤◌, Bool, true, false, cond, not, ◌&&◌, ◌||◌, eqb, ltb, List, [], length, is_some, Some, None, Option, sym, refl, ap, ◌∙◌, subst, inl, inr, arith}
+use Rattle.std.proofs.Common.{◌≡◌, ℕ, ◌<◌, Bool, true, false, not, ◌&&◌, ◌||◌, eqb, ltb, List, [], length, is_some, Some, None, Option, sym, refl, ap, ◌∙◌, inl, inr}
 use Rattle.std.specs.Option.{option_map}
 use Rattle.std.proofs.lemmas.Bool.{and_cases, and_parts, cases_Bool, cond-false, cond-true, eqb-false, eqb-true, false≢true, ltb-false, ltb-true, not-false, not-true, or_parts}
 use Rattle.entries.specs.declared.Entry.{Entry}
@@ -17,9 +17,9 @@ use Rattle.rules.specs.declared.rule.Rule.TheVariants as rule
 use Rattle.rules.specs.Asking.{globals_size, inside_of, mark_shape, opens_at, procedure_at, shape_of}
 use Rattle.rules.specs.Starts.{Start, next, is_start}
 use Rattle.rules.specs.Places.{flow_in, is_opening, misplaced_as, opens_as}
-use Rattle.rules.specs.Needs.{and_then, mark_or, shape_before, under_upper, unlike}
+use Rattle.rules.specs.Needs.{and_then, mark_or, under_upper, unlike}
 use Rattle.rules.specs.Regions.{strays}
-use Rattle.rules.specs.Sites.{broken_at, left_by, no_callee, no_mark, some, too_deep, unlike_target}
+use Rattle.rules.specs.Sites.{left_by, no_callee, no_mark, some, too_deep, unlike_target}
 use Rattle.rules.proofs.Starting.{is-start, start_is}
 use Rattle.verdict.specs.Assignment.{Arrives, Clears, Meets, Placed, effect_in}
 use Rattle.verdict.specs.Breaking.{Unbroken, breaks, falls_into}

@@ -1,5 +1,5 @@
 -- Options, taken apart.
-use Rattle.std.proofs.Common.{◌≡◌, Bool, true, false, cond, List, [], is_some, Some, None, Option, sym, refl, ap, ◌∙◌}
+use Rattle.std.proofs.Common.{◌≡◌, Bool, true, false, cond, is_some, Some, None, Option, sym, refl, ap}
 use Rattle.std.specs.Option.{option_map}
 use Rattle.std.proofs.lemmas.Bool.{false≢true}
 use Rattle.rules.specs.Needs.{and_then}

@@ -1,5 +1,5 @@
 -- When code clears: there is a shape for every instruction that meets the rules.
-use Rattle.std.specs.Prelude.{◌≡◌, ℕ, ◌<◌, ◌≤◌, Bool, true, false, List, [], length, is_some, Some, None, Option, ◌≢◌}
+use Rattle.std.specs.Prelude.{◌≡◌, ℕ, ◌<◌, ◌≤◌, true, false, List, [], length, is_some, Some, None, ◌≢◌}
 use Rattle.entries.specs.declared.Entry.{Entry}
 use Rattle.declarations.specs.Marks.{mark_at}
 use Rattle.declarations.specs.Procedures.{Procedure}

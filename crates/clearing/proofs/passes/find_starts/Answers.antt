@@ -1,14 +1,13 @@
-use Rattle.std.proofs.Common.{◌≡◌, ℕ, ◌+◌, ◌<◌, length, sym, ap, ◌∙◌, subst, arith}
+use Rattle.std.proofs.Common.{◌+◌, ◌<◌, length, sym, ap, ◌∙◌, subst, arith}
 use Rattle.instruction.specs.Decoding.{decoded}
 use Rattle.package.specs.Views.{package_seen}
 use Rattle.rules.specs.declared.rule.Rule.TheVariants.{Undecoded}
-use Rattle.rules.specs.Starts.{start_from}
 use Rattle.rules.proofs.Starting.{from-none}
 use Rattle.start_table.specs.declared.StartTable.{StartTable}
 use Rattle.start_table.specs.Table.{Kept}
 use Rattle.start_table.proofs.Keeping.{kept_refl, kept_trans}
 use Rattle.clearing.specs.Passing.{TellsStarts}
-use Rattle.clearing.proofs.Scans.{below_more, below_none, decoded-some, ended, found, no_start, undecoded-none}
+use Rattle.clearing.proofs.Scans.{below_more, below_none, decoded-some, found, no_start, undecoded-none}
 use Rattle.clearing.proofs.Telling.{BlankFrom, blank-more, next-behind, next-same, no-start-here, starts-here, tells_none, tells-start}
 use Rattle.clearing.proofs.Turns.{err-ok}
 use Rattle.clearing.proofs.passes.find_starts.Goals.{then-at-next+in-Some, else-at-next}

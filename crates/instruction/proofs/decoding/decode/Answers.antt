@@ -1,6 +1,5 @@
-use Rattle.std.proofs.Common.{◌≡◌, Option, sym, ◌∙◌, subst}
+use Rattle.std.proofs.Common.{sym, ◌∙◌, subst}
 use Rattle.std.proofs.lemmas.List.{take_rest}
-use Rattle.instruction.specs.declared.decoding.Decoded.{Decoded}
 use Rattle.instruction.specs.Decoding.{Within}
 use Rattle.instruction.proofs.Forward.{within}
 use Rattle.instruction.proofs.Lines.{past-code, not_listed, listed}

@@ -1,8 +1,8 @@
-use Rattle.std.proofs.Common.{◌≡◌, ◌-◌, ◌<◌, length, sym, ap, ◌∙◌, arith}
+use Rattle.std.proofs.Common.{◌-◌, ◌<◌, length, sym, ap, ◌∙◌, arith}
 use Rattle.std.proofs.lemmas.List.{drop_all}
 use Rattle.declarations.specs.Views.{procedure_seen}
 use Rattle.shape.specs.Shapes.{shape_in, stack_of, taken}
-use Rattle.rules.specs.Needs.{argument, under_arguments}
+use Rattle.rules.specs.Needs.{under_arguments}
 use Rattle.rules.proofs.Needing.{nth_in, arguments-none, arguments-turn, arguments-missing}
 use Rattle.rules.proofs.needs.under_arguments.Goals as goal
 

@@ -1,4 +1,4 @@
-use Rattle.std.proofs.Common.{◌≡◌, ℕ, eqb, List, get_or, sym, refl, ap, ◌∙◌}
+use Rattle.std.proofs.Common.{eqb, get_or, refl, ap, ◌∙◌}
 use Rattle.start_table.specs.Table.{told}
 use Rattle.start_table.specs.Wiping.{wiped}
 use Rattle.start_table.proofs.Telling.{wiped-none, wiped-twice}
