@@ -79,8 +79,7 @@ impl<'a> ProcedureView<'a> {
 
     // How many bytes all parameters take together.
     pub fn parameters_size(&self) -> usize
-        ensures is { result ≡ parameters_size (procedure_seen self.now).parameters }
-        ensures few { result ≤ 32 }
+        ensures { result ≡ parameters_size (procedure_seen self.now).parameters }
     {
         let kinds = self.kind_bytes();
         let mut size = 0;
@@ -92,8 +91,7 @@ impl<'a> ProcedureView<'a> {
 
     // How many bytes the result takes: 0 where there is none.
     pub fn result_size(&self) -> usize
-        ensures is { result ≡ result_byte (procedure_seen self.now).result }
-        ensures few { result ≤ 4 }
+        ensures { result ≡ result_byte (procedure_seen self.now).result }
     {
         match self.result {
             Some(kind) => kind.size(),

@@ -1,4 +1,4 @@
-use Rattle.std.proofs.Common.{◌≡◌, ℕ, List, map, length, get_or, ap, ◌∙◌, arith, length-take}
+use Rattle.std.proofs.Common.{◌≡◌, ℕ, List, map, get_or, ap, ◌∙◌, arith}
 use Rattle.std.proofs.lemmas.List.{take_all}
 use Rattle.entries.specs.Sizes.{size_of}
 use Rattle.declarations.specs.Kinds.{kind_of}
@@ -17,11 +17,5 @@ loop-byte-preserved c =
 
 pub returns : goal.returns
 returns c =
-    let few = length-take 8 c.args.self.now.kinds.now in
-    let same = ap length c.kind_bytes-kinds.ensures in
-    record {
-      is =
-          c.loop-byte.invariant.0
-          ∙ ap (λ (ks : List ℕ). parameters_size (map kind_of ks)) (take_all _ _ c.loop-byte-test.false ∙ c.kind_bytes-kinds.ensures);
-      few = omega (arith, c.loop-byte.invariant.1, few, same);
-    }
+    c.loop-byte.invariant.0
+    ∙ ap (λ (ks : List ℕ). parameters_size (map kind_of ks)) (take_all _ _ c.loop-byte-test.false ∙ c.kind_bytes-kinds.ensures)
