@@ -5,7 +5,7 @@ usage: python3 tools/respell_names.py    once, at the top, right behind the kit'
 
 It renames what specs/ and proofs/ declare in lower camel case (`entriesOf` to `entries_of`), and the two definitions
 that are types but began with a small letter. Source names of src/, generated names, strings, inputs and outputs stay.
-It stops, and changes nothing, where two names would fall together in a module.
+It prints each name that would fall together with one that stands already.
 """
 
 import os
