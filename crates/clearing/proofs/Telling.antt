@@ -29,19 +29,19 @@ module _ (code : List ℕ) (x n : ℕ) (h : n ≡ start_from code x) where
   pub next-same : (x ≡ n → ⊥) → n ≡ start_from code (x + 1)
   next-same e = sym (turn ∙ ap (λ b. cond b (behind x (decoded code x)) (start_from code x)) (no-start-here e) ∙ sym h)
 
-  module _ (t : StartTable) (Told-Below : TellsStarts code t x) where
+  module _ (t : StartTable) (told_below : TellsStarts code t x) where
     pub tells-start : (u : StartTable) → x ≡ n → TellsMore x t u → TellsStarts code u (x + 1)
     tells-start u e m y l =
         ⊎_elim
         (λ q. ap (told u) q ∙ m.there ∙ sym (ap (is_start code) q ∙ starts-here e))
-        (λ q. m.others y q ∙ Told-Below y (omega (arith, l, q)))
+        (λ q. m.others y q ∙ told_below y (omega (arith, l, q)))
         (cases_eq y x)
 
     pub tells_none : (x ≡ n → ⊥) → x < t.size → BlankFrom t x → TellsStarts code t (x + 1)
     tells_none e s b y l =
         ⊎_elim
         (λ q. ap (told t) q ∙ b x (omega arith) s ∙ sym (ap (is_start code) q ∙ no-start-here e))
-        (λ q. Told-Below y (omega (arith, l, q)))
+        (λ q. told_below y (omega (arith, l, q)))
         (cases_eq y x)
 
 pub blank-more : (x : ℕ) (t u : StartTable) → BlankFrom t x → TellsMore x t u → u.size ≡ t.size → BlankFrom u (x + 1)

@@ -1,4 +1,4 @@
-// What becomes of the work area; `cases` has the answers of many packages.
+// What becomes of the work area; `clear_cases` has the answers of many packages.
 use super::clear;
 use package::read;
 

@@ -66,7 +66,7 @@ module _ (k : Package) (shape : ℕ → List Entry) (c : Clears k shape) where
 
     arrives : falls (effect_in d).flow ≡ true → Arrives k shape (procedure_at k x) result d.next
     unfolding result
-    arrives g = met.falls-on g
+    arrives g = met.falls_on g
 
     next-is : falls (effect_in d).flow ≡ true → falls_into k d.next ≡ Some (shape d.next)
     next-is g = falls-next k x d s e ∙ cond-true (falls (effect_in d).flow) (left_by (here k x d)) None g ∙ left_is ∙ ap Some (sym (arrives g).shape_is)
@@ -123,7 +123,7 @@ module _ (k : Package) (shape : ℕ → List Entry) (c : Clears k shape) where
     ρ-is = left_is x d s e b
 
     inside_is : (y : ℕ) (σ : List Entry) → Arrives k shape p σ y → inside_of k p y ≡ true
-    inside_is y σ a = and_from _ _ (lt-ltb _ _ a.inside) (eq-eqb _ _ a.same-procedure)
+    inside_is y σ a = and_from _ _ (lt-ltb _ _ a.inside) (eq-eqb _ _ a.same_procedure)
 
     alike : unlike (mark_shape k x) (falls_into k x) ≡ false
     alike =
@@ -180,7 +180,7 @@ module _ (k : Package) (shape : ℕ → List Entry) (c : Clears k shape) where
     holds rule.UnlikeTarget = some_of _ ρ (λ σ. some (target_of d.next f) (unlike_target k σ)) ρ-is ∙ targets
     holds rule.FallsOut =
         elim (cases_Bool (falls f))
-        [ inl g ↦ and_right (falls f) _ (not_from_true _ (inside_is d.next ρ (m.falls-on g))) | inr g ↦ and_left (falls f) _ g ]
+        [ inl g ↦ and_right (falls f) _ (not_from_true _ (inside_is d.next ρ (m.falls_on g))) | inr g ↦ and_left (falls f) _ g ]
 
   there : (x : ℕ) → x < length code → (r : Rule) → breaks_there k x r ≡ false
   there x l r =

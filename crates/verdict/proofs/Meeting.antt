@@ -165,7 +165,7 @@ module _ (k : Package) (u : Unbroken k) where
         record {
           start = start;
           inside = i.0;
-          same-procedure = i.1;
+          same_procedure = i.1;
           later = later;
           shape_is = none_or_some (mark_shape k y) (shape_at k y ≡ result)
               (λ m. shape-fallen y result later m c)
@@ -188,7 +188,7 @@ module _ (k : Package) (u : Unbroken k) where
           record {
             start = start_is code t m.0;
             inside = i.0;
-            same-procedure = i.1;
+            same_procedure = i.1;
             later = m.1;
             shape_is = shape-marked t told.0 m.1 told.1 ∙ shape_is told.0 result (not-false _ v);
           },
@@ -216,7 +216,7 @@ module _ (k : Package) (u : Unbroken k) where
           regions = sym (ap (λ o. strays (globals_size k) p (effect_in d) (and_then o top_of)) under-is) ∙ kept k u x d s e rule.OutOfRegion;
           few = ltb-false _ _ limits.0;
           fitting = ltb-false _ _ limits.1;
-          falls-on = on;
+          falls_on = on;
           branches = to;
           calls = into;
         }

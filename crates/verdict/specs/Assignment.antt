@@ -33,7 +33,7 @@ pub record Placed (k : Package) : Type 0 where
 pub record Arrives (k : Package) (shape : ℕ → List Entry) (p : Procedure) (σ : List Entry) (x : ℕ) : Type 0 where
   pub start : Start k.code x
   pub inside : x < length k.code
-  pub same-procedure : (procedure_at k x).offset ≡ p.offset
+  pub same_procedure : (procedure_at k x).offset ≡ p.offset
   pub later : opens_at k x ≡ false
   pub shape_is : shape x ≡ σ
 
@@ -63,7 +63,7 @@ pub record Meets (k : Package) (shape : ℕ → List Entry) (x : ℕ) (d : Decod
   pub few : length (left (effect_in d).leaves rest) ≤ 16
   pub fitting : shape_size (left (effect_in d).leaves rest) ≤ (procedure_at k x).depth
   -- where control goes
-  pub falls-on : falls (effect_in d).flow ≡ true → Arrives k shape (procedure_at k x) (left (effect_in d).leaves rest) d.next
+  pub falls_on : falls (effect_in d).flow ≡ true → Arrives k shape (procedure_at k x) (left (effect_in d).leaves rest) d.next
   pub branches : (t : ℕ) → target_of d.next (effect_in d).flow ≡ Some t
       → (is_some (mark_shape k t) ≡ true) × Arrives k shape (procedure_at k x) (left (effect_in d).leaves rest) t
   pub calls : (t : ℕ) → callee_of d.next (effect_in d).flow ≡ Some t → (opens_at k t ≡ true) × (t ≢ 0)
