@@ -73,7 +73,8 @@ pub fn read<'a>(bytes: &'a [u8]) -> Result<ReadPackage<'a>, ReadFault>
 
 // The view of bytes that hold nothing but good fields.
 fn view<'a>(bytes: &'a [u8], tally: &Tally) -> ReadPackage<'a>
-    requires { (3 + tally.now.code ≤ tally.now.fore) × (tally.now.fore ≤ length bytes.now) }
+    requires code { 3 + tally.now.code ≤ tally.now.fore }
+    requires fore { tally.now.fore ≤ length bytes.now }
     ensures { package_seen result ≡ package_within bytes.now tally.now.code tally.now.fore }
 {
     let opening = 3 + tally.code;
@@ -157,7 +158,10 @@ impl Tally {
 
     // Counts one more field, whose length is right.
     fn include(&mut self, field: &Field<'_>)
-        requires { (misshapen field.now.tag field.now.body.now ≡ false) × ((self.old.at + (3 + length field.now.body.now) < 2 ^ 64) × ((self.old.procedures ≤ self.old.at) × (self.old.marks ≤ self.old.at))) }
+        requires shape { misshapen field.now.tag field.now.body.now ≡ false }
+        requires room { self.old.at + (3 + length field.now.body.now) < 2 ^ 64 }
+        requires procedures { self.old.procedures ≤ self.old.at }
+        requires marks { self.old.marks ≤ self.old.at }
         ensures { self.new ≡ tallied self.old (seen_field field.now) }
     {
         self.at += 3 + field.body.len();

@@ -20,7 +20,7 @@ returns-in_err-field c =
 pub include-requires : goal.include-requires
 include-requires c =
     let g = goes_on c.args.bytes.now c.loop-rest.tally c.loop-rest.rest.now c.type_inv.bytes c.loop-rest.invariant (seen_field c.in_ok-field.field) c.in_ok-field.ensures in
-    (g.shape, (omega (arith, g.within), (g.few.0, g.few.1)))
+    record { shape = g.shape; room = omega (arith, g.within); procedures = g.few.0; marks = g.few.1 }
 
 pub loop-rest-smaller : goal.loop-rest-smaller
 loop-rest-smaller c =
@@ -37,7 +37,8 @@ returns-then-miscounts c =
 
 pub view-requires : goal.view-requires
 view-requires c =
-    ends-fitting c.args.bytes.now c.loop-rest.tally c.loop-rest.rest.now c.type_inv.bytes c.loop-rest.invariant c.if-miscounts.ensures
+    let e = ends-fitting c.args.bytes.now c.loop-rest.tally c.loop-rest.rest.now c.type_inv.bytes c.loop-rest.invariant c.if-miscounts.ensures in
+    record { code = e.0; fore = e.1 }
 
 pub returns : goal.returns
 returns c =
