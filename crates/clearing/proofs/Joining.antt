@@ -1,16 +1,15 @@
 -- One pass after another, and the laws of the answer.
-use Rattle.std.proofs.Common.{◌≡◌, ℕ, ◌<◌, ◌≤◌, List, [], ◌∷◌, length, Some, None, Ok, Err, Option, Result, sym, refl, ◌∙◌, subst}
+use Rattle.std.proofs.Common.{◌≡◌, ℕ, ◌<◌, ◌≤◌, [], ◌∷◌, length, Some, None, Ok, Err, Option, Result, sym, refl, ◌∙◌, subst}
 use Rattle.std.proofs.lemmas.Bool.{cond-false, cond-true, le-ltb, lt-ltb}
 use Rattle.package.specs.Package.{Package}
 use Rattle.rules.specs.declared.rule.Rule.TheVariants as rule
 use Rattle.rules.specs.Sites.{instruction_rules}
-use Rattle.start_table.specs.Wiping.{wiped}
 use Rattle.verdict.specs.declared.ClearFault.{ClearFault}
 use Rattle.verdict.specs.declared.ClearFault.TheVariants.{WorkTooShort}
 use Rattle.verdict.specs.Answers.{ClearsExactly, FirstBroken, clearing, ruled}
 use Rattle.verdict.specs.Breaking.{Breach, first_breach, or_else, verdict}
 use Rattle.verdict.proofs.Exact.{clears-exactly, first-broken}
-use Rattle.clearing.specs.Passing.{passed, work_after}
+use Rattle.clearing.specs.Passing.{passed}
 use Rattle.clearing.proofs.Turns.{err-ok}
 
 -- a pass that stops settles the answer, and one that does not leaves it to those behind
@@ -66,9 +65,3 @@ module _ (k : Package) where
 
       pub first_by : FirstBroken k r
       first_by = subst (FirstBroken k) (sym e) (first-broken k room)
-
-pub work-kept : (c : ℕ) (xs : List ℕ) → length xs < c → xs ≡ work_after c xs
-work-kept c xs l = sym (cond-true _ _ _ (lt-ltb _ _ l))
-
-pub work-wiped : (c : ℕ) (xs : List ℕ) → c ≤ length xs → wiped c xs ≡ work_after c xs
-work-wiped c xs l = sym (cond-false _ _ _ (le-ltb _ _ l))

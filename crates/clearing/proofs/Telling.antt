@@ -6,12 +6,12 @@ use Rattle.instruction.specs.Decoding.{decoded}
 use Rattle.rules.specs.Starts.{behind, is_start, start_from}
 use Rattle.rules.proofs.Starting.{from-turn}
 use Rattle.start_table.specs.declared.StartTable.{StartTable}
-use Rattle.start_table.specs.Table.{TellsMore, told}
+use Rattle.start_table.specs.Table.{TellsMore, size, told}
 use Rattle.clearing.specs.Passing.{TellsStarts}
 
 -- from x on, no start is told
 abbrev pub BlankFrom : StartTable → ℕ → Type 0
-BlankFrom t x = (y : ℕ) → x ≤ y → y < t.size → told t y ≡ false
+BlankFrom t x = (y : ℕ) → x ≤ y → y < size t → told t y ≡ false
 
 module _ (code : List ℕ) (x n : ℕ) (h : n ≡ start_from code x) where
   turn : start_from code (x + 1) ≡ cond (is_start code x) (behind x (decoded code x)) (start_from code x)
@@ -37,12 +37,12 @@ module _ (code : List ℕ) (x n : ℕ) (h : n ≡ start_from code x) where
         (λ q. m.others y q ∙ told_below y (omega (arith, l, q)))
         (cases_eq y x)
 
-    pub tells_none : (x ≡ n → ⊥) → x < t.size → BlankFrom t x → TellsStarts code t (x + 1)
+    pub tells_none : (x ≡ n → ⊥) → x < size t → BlankFrom t x → TellsStarts code t (x + 1)
     tells_none e s b y l =
         ⊎_elim
         (λ q. ap (told t) q ∙ b x (omega arith) s ∙ sym (ap (is_start code) q ∙ no-start-here e))
         (λ q. told_below y (omega (arith, l, q)))
         (cases_eq y x)
 
-pub blank-more : (x : ℕ) (t u : StartTable) → BlankFrom t x → TellsMore x t u → u.size ≡ t.size → BlankFrom u (x + 1)
+pub blank-more : (x : ℕ) (t u : StartTable) → BlankFrom t x → TellsMore x t u → size u ≡ size t → BlankFrom u (x + 1)
 blank-more x t u b m s y l r = m.others y (λ q. absurd (omega (arith, q, l))) ∙ b y (omega (arith, l)) (omega (arith, r, s))

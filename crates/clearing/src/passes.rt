@@ -1,9 +1,10 @@
-// The passes over the code.
+// The passes over the code. Package and table are two arguments, since the first pass is lent the table to write, and
+// the others to read: a struct of both would be made twice. Each goes over the offsets, since these are what is asked
+// about.
 ghost use Rattle.std.specs.Prelude.{◌≡◌, [], ◌∷◌, length, Ok};
-ghost use Rattle.package.specs.Views.{package_seen};
 ghost use Rattle.rules.specs.declared.rule.Rule.TheVariants.{Misplaced, Undecoded};
 ghost use Rattle.rules.specs.Sites.{instruction_rules};
-ghost use Rattle.start_table.specs.Table.{Kept};
+ghost use Rattle.start_table.specs.Table.{Kept, size};
 ghost use Rattle.verdict.specs.Breaking.{first_breach, verdict};
 ghost use Rattle.clearing.specs.Passing.{Blank, TellsStarts, passed};
 
@@ -16,10 +17,13 @@ use start_table::StartTable;
 use verdict::ClearFault;
 
 // All the rules, in three passes.
-pub(crate) fn check(read: &ReadPackage<'_>, table: &mut StartTable<'_>) -> Result<(), ClearFault>
-    requires size { length (package_seen read.now).code ≡ table.old.size }
+pub(crate) fn check_rules(
+    read: &ReadPackage<'_>,
+    table: &mut StartTable<'_>,
+) -> Result<(), ClearFault>
+    requires size { length read.now.code ≡ size table.old }
     requires blank { Blank table.old }
-    ensures answers { result ≡ passed (verdict (package_seen read.now)) }
+    ensures answers { result ≡ passed (verdict read.now) }
     ensures kept { Kept table.old table.new }
 {
     find_starts(read, table)?;
@@ -29,10 +33,10 @@ pub(crate) fn check(read: &ReadPackage<'_>, table: &mut StartTable<'_>) -> Resul
 
 // Tells each start in the table, or names the first at which no instruction decodes.
 fn find_starts(read: &ReadPackage<'_>, table: &mut StartTable<'_>) -> Result<(), ClearFault>
-    requires size { length (package_seen read.now).code ≡ table.old.size }
+    requires size { length read.now.code ≡ size table.old }
     requires blank { Blank table.old }
-    ensures answers { result ≡ passed (first_breach (package_seen read.now) (Undecoded ∷ [])) }
-    ensures starts { result ≡ Ok tt → TellsStarts (package_seen read.now).code table.new table.new.size }
+    ensures answers { result ≡ passed (first_breach read.now (Undecoded ∷ [])) }
+    ensures starts { result ≡ Ok tt → TellsStarts read.now.code table.new (length read.now.code) }
     ensures kept { Kept table.old table.new }
 {
     let code = read.code();
@@ -51,9 +55,8 @@ fn find_starts(read: &ReadPackage<'_>, table: &mut StartTable<'_>) -> Result<(),
 
 // The rule on places, at each offset.
 fn check_places(read: &ReadPackage<'_>, table: &StartTable<'_>) -> Result<(), ClearFault>
-    requires size { length (package_seen read.now).code ≡ table.now.size }
-    requires starts { TellsStarts (package_seen read.now).code table.now table.now.size }
-    ensures answers { result ≡ passed (first_breach (package_seen read.now) (Misplaced ∷ [])) }
+    requires { TellsStarts read.now.code table.now (length read.now.code) }
+    ensures answers { result ≡ passed (first_breach read.now (Misplaced ∷ [])) }
 {
     for at in 0..read.code().len() {
         if is_misplaced(read, at, table.is_start(at)) {
@@ -65,9 +68,8 @@ fn check_places(read: &ReadPackage<'_>, table: &StartTable<'_>) -> Result<(), Cl
 
 // The rules on instructions, at each start, with the shape that falls on from each to the next.
 fn check_instructions(read: &ReadPackage<'_>, table: &StartTable<'_>) -> Result<(), ClearFault>
-    requires size { length (package_seen read.now).code ≡ table.now.size }
-    requires starts { TellsStarts (package_seen read.now).code table.now table.now.size }
-    ensures answers { result ≡ passed (first_breach (package_seen read.now) instruction_rules) }
+    requires { TellsStarts read.now.code table.now (length read.now.code) }
+    ensures answers { result ≡ passed (first_breach read.now instruction_rules) }
 {
     let mut carry = None;
     for at in 0..read.code().len() {

@@ -1,6 +1,5 @@
 // What becomes of the work area; `clear_cases` has the answers of many packages.
-use super::clear;
-use package::read;
+use super::{CheckFault, check};
 
 // Writes "HI", a line feed and -7 DIV 2: 33 bytes of code, and one procedure.
 const SAMPLE: &[u8] =
@@ -12,23 +11,16 @@ const UNLISTED: &[u8] =
 
 // The number and the place of a refusal; 0 and 0 where the package clears, and (1, 1) where it cannot be read.
 fn refusal(bytes: &[u8], work: &mut [u8]) -> (u8, usize) {
-    let Ok(package) = read(bytes) else {
-        return (1, 1);
-    };
-    match clear(package, work) {
+    match check(bytes, work) {
         Ok(_) => (0, 0),
-        Err(fault) => (fault.number(), fault.place()),
+        Err(CheckFault::Clear(fault)) => (fault.number(), fault.place()),
+        Err(CheckFault::Read(_)) => (1, 1),
     }
 }
 
 // Whether each byte has a value.
 fn all_are(bytes: &[u8], value: u8) -> bool {
-    for byte in bytes {
-        if *byte != value {
-            return false;
-        }
-    }
-    true
+    bytes.iter().all(|byte| *byte == value)
 }
 
 #[test]

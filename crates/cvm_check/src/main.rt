@@ -13,15 +13,9 @@ fn main(rt: HostRuntime) -> io::Result<()> {
     rt.stdin().take(MOST_BYTES).read_to_end(&mut bytes)?;
     match read(bytes.as_slice()) {
         Ok(package) => {
-            let code = package.code().len();
-            let procedures = package.procedure_count();
-            let marks = package.mark_count();
-            println!(rt; "read {code} {procedures} {marks}")
+            let counts = package.counts();
+            println!(rt; "read {counts}")
         }
-        Err(fault) => {
-            let number = fault.number();
-            let place = fault.place();
-            println!(rt; "refused {number} at {place}")
-        }
+        Err(fault) => rt.println(fault),
     }
 }

@@ -1,6 +1,5 @@
 pub mod Lists
 pub mod Bodies
 pub mod Triples
-pub mod Walks
 pub mod Checks
 pub mod Owners

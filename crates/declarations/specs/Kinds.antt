@@ -1,15 +1,16 @@
 -- The byte that names a kind is its size: 1 is byte, 2 char, 4 int.
-use Rattle.std.specs.Prelude.{ℕ, Bool, true, false, cond, ◌||◌, List, [], ◌∷◌, Some, None, Option, ◌==◌}
+use Rattle.std.specs.Prelude.{ℕ, Bool, true, false, cond, ◌||◌, List, [], ◌∷◌, Some, None, Option, is_some, unwrap_or, ◌==◌}
 use Rattle.entries.specs.declared.Kind.{Kind}
-use Rattle.entries.specs.declared.Kind.TheVariants.{Byte, Char, Int}
+use Rattle.entries.specs.declared.Kind.TheVariants.{Int}
+use Rattle.entries.specs.Kinds.{sized_kind}
 use Rattle.entries.specs.Sizes.{size_of}
 
 abbrev pub is_kind : ℕ → Bool
-is_kind b = b == 1 || (b == 2 || b == 4)
+is_kind b = is_some (sized_kind b)
 
 -- the kind that a byte names, if it names one
 abbrev pub kind_of : ℕ → Kind
-kind_of b = cond (b == 1) Byte (cond (b == 2) Char Int)
+kind_of b = unwrap_or (sized_kind b) Int
 
 -- a result may be none, named by 0
 abbrev pub result_byte : Option Kind → ℕ

@@ -1,5 +1,6 @@
 -- Marks.
-use Rattle.std.specs.Prelude.{ℕ, cond, List, [], ◌∷◌, length, drop, Some, None, Option, ◌==◌, nat_lt}
+use Rattle.std.specs.Prelude.{ℕ, cond, List, [], ◌∷◌, length, drop, Option, ◌==◌, nat_lt}
+use Rattle.std.specs.List.{find}
 use Rattle.entries.specs.declared.Entry.{Entry}
 use Rattle.fields.specs.Bytes.{two}
 use Rattle.declarations.specs.Entries.{entry_of}
@@ -22,5 +23,4 @@ mark_of body = cond (nat_lt (length body) 2) (record { offset = 0; entries = [] 
 
 -- the mark at x
 unfoldable pub mark_at : List Mark → ℕ → Option Mark
-mark_at [] x = None
-mark_at (m ∷ ms) x = cond (m.offset == x) (Some m) (mark_at ms x)
+mark_at ms x = find (λ m. m.offset == x) ms

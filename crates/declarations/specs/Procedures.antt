@@ -1,5 +1,6 @@
 -- Procedures.
-use Rattle.std.specs.Prelude.{ℕ, cond, List, [], ◌∷◌, map, length, take, drop, Some, None, sum_by, Option, ◌==◌, nat_le, nat_lt, slice_index}
+use Rattle.std.specs.Prelude.{ℕ, cond, List, [], ◌∷◌, map, length, take, drop, None, sum_by, Option, ◌==◌, nat_le, nat_lt, slice_index}
+use Rattle.std.specs.List.{find}
 use Rattle.entries.specs.declared.Kind.{Kind}
 use Rattle.entries.specs.Sizes.{size_of}
 use Rattle.fields.specs.Bytes.{two}
@@ -45,8 +46,7 @@ owner_of ps x = owner_from blank ps x
 
 -- the procedure that opens at x
 unfoldable pub opening_at : List Procedure → ℕ → Option Procedure
-opening_at [] x = None
-opening_at (p ∷ ps) x = cond (p.offset == x) (Some p) (opening_at ps x)
+opening_at ps x = find (λ p. p.offset == x) ps
 
 -- the program is the first procedure; its variables are the globals
 unfoldable pub program_of : List Procedure → Procedure

@@ -1,6 +1,6 @@
 // The bytes that name kinds and entries.
-ghost use Rattle.std.specs.Prelude.{◌≡◌, ◌<◌};
-ghost use Rattle.declarations.specs.Entries.{entry_of, is_entry, sign_extended};
+ghost use Rattle.std.specs.Prelude.{◌≡◌};
+ghost use Rattle.declarations.specs.Entries.{entry_in, entry_kind_of, is_entry_in, sign_extended};
 ghost use Rattle.declarations.specs.Kinds.{is_kind, kind_of, result_of};
 
 use entries::{Entry, EntryKind, Kind};
@@ -9,21 +9,17 @@ use entries::{Entry, EntryKind, Kind};
 pub(crate) fn is_kind(byte: u8) -> bool
     ensures { result ≡ is_kind byte }
 {
-    matches!(byte, 1 | 2 | 4)
+    Kind::try_from(u32::from(byte)).is_ok()
 }
 
 // The kind that a byte names. A byte that names none never comes here: reading refuses it.
 pub(crate) fn kind_of(byte: u8) -> Kind
     ensures { result ≡ kind_of byte }
 {
-    match byte {
-        1 => Kind::Byte,
-        2 => Kind::Char,
-        _ => Kind::Int,
-    }
+    Kind::try_from(u32::from(byte)).unwrap_or(Kind::Int)
 }
 
-// A result's kind, or none for 0.
+// A result's kind, or none for 0, which is not the none of a failed conversion.
 pub(crate) fn result_of(byte: u8) -> Option<Kind>
     ensures { result ≡ result_of byte }
 {
@@ -33,59 +29,50 @@ pub(crate) fn result_of(byte: u8) -> Option<Kind>
     }
 }
 
-// Whether a kind byte and a number make up an entry.
-pub(crate) fn is_entry(kind: u8, number: u16) -> bool
-    ensures { result ≡ is_entry kind number }
+// The kind of entry that a byte names, if it names one.
+fn entry_kind_of(byte: u8) -> Option<EntryKind>
+    ensures { result ≡ entry_kind_of byte }
 {
-    match kind {
-        1 | 2 | 4 => number == 0,
-        5 | 6 => true,
-        7 => number <= 32,
-        _ => false,
+    match byte {
+        5 => Some(EntryKind::Local),
+        6 => Some(EntryKind::Global),
+        7 => Some(EntryKind::Text),
+        _ => Kind::try_from(u32::from(byte)).ok().map(EntryKind::from),
     }
 }
 
-// The entry that a kind byte and a number make up. What makes up none never comes here: reading refuses it.
-pub(crate) fn entry_of(kind: u8, number: u16) -> Entry
-    ensures { result ≡ entry_of kind number }
+// Whether a kind byte and a number of two bytes make up an entry.
+pub(crate) fn is_entry(bytes: &[u8; 3]) -> bool
+    ensures { result ≡ is_entry_in bytes.now }
 {
-    let number = u32::from(number);
-    match kind {
-        1 => Entry {
-            kind: EntryKind::Byte,
-            number,
-        },
-        2 => Entry {
-            kind: EntryKind::Char,
-            number,
-        },
-        4 => Entry {
-            kind: EntryKind::Int,
-            number,
-        },
-        5 => Entry {
-            kind: EntryKind::Local,
-            number: sign_extended(number),
-        },
-        6 => Entry {
-            kind: EntryKind::Global,
-            number,
-        },
-        _ => Entry {
-            kind: EntryKind::Text,
-            number,
-        },
+    let [kind, hi, lo] = *bytes;
+    let number = u16::from_be_bytes([hi, lo]);
+    match entry_kind_of(kind) {
+        Some(EntryKind::Byte | EntryKind::Char | EntryKind::Int) => number == 0,
+        Some(EntryKind::Local | EntryKind::Global) => true,
+        Some(EntryKind::Text) => number <= 32,
+        None => false,
     }
+}
+
+// The entry that a kind byte and a number of two bytes make up. What makes up none never comes here: reading refuses
+// it.
+pub(crate) fn entry_of(bytes: &[u8; 3]) -> Entry
+    ensures { result ≡ entry_in bytes.now }
+{
+    let [kind, hi, lo] = *bytes;
+    let number = u16::from_be_bytes([hi, lo]);
+    let kind = entry_kind_of(kind).unwrap_or(EntryKind::Text);
+    let number = match kind {
+        EntryKind::Local => sign_extended(number),
+        _ => u32::from(number),
+    };
+    Entry { kind, number }
 }
 
 // A signed number of 16 bits as one of 32 bits.
-fn sign_extended(number: u32) -> u32
-    requires { number < 65536 }
+fn sign_extended(number: u16) -> u32
     ensures { result ≡ sign_extended number }
 {
-    if number < 0x8000 {
-        number
-    } else {
-        number + 0xffff_0000
-    }
+    i32::from(number.cast_signed()).cast_unsigned()
 }

@@ -2,8 +2,12 @@
 #![tactic(auto)]
 
 mod codes;
+mod found;
 pub mod marks;
 pub mod procedures;
 
 pub use marks::MarkView;
 pub use procedures::ProcedureView;
+
+#[cfg(test)]
+mod tests;

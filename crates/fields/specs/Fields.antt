@@ -1,6 +1,7 @@
 -- Fields: a one-byte tag, a two-byte length and that many bytes.
-use Rattle.std.specs.Prelude.{ℕ, zero, suc, cond, List, [], ◌∷◌, ◌++◌, length, take, drop, Some, None, Option, nat_lt, slice_index}
+use Rattle.std.specs.Prelude.{ℕ, zero, suc, cond, List, [], ◌∷◌, ◌++◌, map, length, take, drop, Some, None, Option, option_map, nat_lt, slice_index}
 use Rattle.fields.specs.declared.Field.{Field}
+use Rattle.fields.specs.declared.Fields.{Fields}
 use Rattle.fields.specs.Bytes.{two, two_bytes}
 
 -- a field taken off the front of some bytes
@@ -24,19 +25,26 @@ abbrev pub seen_field : Field → Cut
 seen_field f = record { tag = f.tag; body = f.body.now; rest = f.rest.now }
 
 abbrev pub seen : Option Field → Option Cut
-seen None = None
-seen (Some f) = Some (seen_field f)
+seen f = option_map seen_field f
 
--- what is made of the field at the front of some bytes and of those behind it
-abbrev pub bodies_by : (List ℕ → List (List ℕ)) → Option Cut → List (List ℕ)
-bodies_by onward None = []
-bodies_by onward (Some f) = f.body ∷ onward f.rest
+-- the fields that stand in some bytes, given the one at the front and what gives those behind it
+abbrev pub fields_by : (List ℕ → List Cut) → Option Cut → List Cut
+fields_by onward None = []
+fields_by onward (Some f) = f ∷ onward f.rest
 
--- the bodies of the first fields of some bytes, at most n of them
-unfoldable pub bodies_up_to : ℕ → List ℕ → List (List ℕ)
-bodies_up_to zero xs = []
-bodies_up_to (suc n) xs = bodies_by (bodies_up_to n) (cut xs)
+-- the first fields of some bytes, at most n of them
+unfoldable pub fields_up_to : ℕ → List ℕ → List Cut
+fields_up_to zero xs = []
+fields_up_to (suc n) xs = fields_by (fields_up_to n) (cut xs)
 
--- the bodies of the fields that stand in some bytes, one behind another: no more of them than there are bytes
-unfoldable pub bodies_in : List ℕ → List (List ℕ)
-bodies_in xs = bodies_up_to (length xs) xs
+-- the fields that stand in some bytes, one behind another: no more of them than there are bytes
+unfoldable pub fields_in : List ℕ → List Cut
+fields_in xs = fields_up_to (length xs) xs
+
+-- their bodies
+abbrev pub bodies_in : List ℕ → List (List ℕ)
+bodies_in xs = map (λ f. f.body) (fields_in xs)
+
+-- what is left to go over
+abbrev pub fields_left : Fields → List Cut
+fields_left f = fields_in f.rest.now

@@ -4,6 +4,7 @@ use Rattle.entries.specs.declared.Kind.{Kind}
 use Rattle.entries.specs.declared.Kind.TheVariants as kind
 use Rattle.entries.specs.declared.EntryKind.TheVariants as entry
 use Rattle.entries.specs.declared.Entry.{Entry}
+use Rattle.entries.specs.Kinds.{plain_entry}
 use Rattle.entries.specs.Sizes.{size_of}
 use Rattle.instruction.specs.declared.effects.Want.{Want}
 use Rattle.instruction.specs.declared.effects.Want.TheVariants.{Nothing, Exactly, Address}
@@ -18,12 +19,6 @@ use Rattle.instruction.specs.declared.operations.Operation.{Operation}
 use Rattle.instruction.specs.declared.operations.Operation.TheVariants as op
 use Rattle.instruction.specs.declared.operations.Instruction.{Instruction}
 use Rattle.instruction.specs.declared.operations.Instruction.TheVariants as instruction
-
--- the entry of a plain value
-abbrev pub plain_entry : Kind → Entry
-plain_entry kind.Byte = record { kind = entry.Byte; number = 0 }
-plain_entry kind.Char = record { kind = entry.Char; number = 0 }
-plain_entry kind.Int = record { kind = entry.Int; number = 0 }
 
 abbrev pub text_entry : ℕ → Entry
 text_entry n = record { kind = entry.Text; number = n }

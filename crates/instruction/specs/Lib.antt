@@ -1,3 +1,4 @@
+pub mod Form
 pub mod Table
 pub mod Decoding
 pub mod Effects

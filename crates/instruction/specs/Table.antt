@@ -1,5 +1,7 @@
 -- The instruction table: a row for each opcode.
-use Rattle.std.specs.Prelude.{ℕ, ◌%◌, cond, List, [], ◌∷◌, Some, None, Option, ◌==◌}
+use Rattle.std.specs.Prelude.{ℕ, ◌%◌, List, [], ◌∷◌, Option, unwrap_or, ◌==◌}
+use Rattle.std.specs.List.{find}
+use Rattle.entries.specs.Kinds.{sized_kind}
 use Rattle.entries.specs.declared.Kind.{Kind}
 use Rattle.entries.specs.declared.Kind.TheVariants as kind
 use Rattle.instruction.specs.declared.operations.Compare.TheVariants as compare
@@ -12,12 +14,12 @@ use Rattle.instruction.specs.declared.operations.Operation.{Operation}
 use Rattle.instruction.specs.declared.operations.Operation.TheVariants as op
 use Rattle.instruction.specs.declared.operations.Instruction.{Instruction}
 use Rattle.instruction.specs.declared.operations.Instruction.TheVariants as instruction
-use Rattle.instruction.specs.declared.decoding.Form.{Form}
-use Rattle.instruction.specs.declared.decoding.Form.TheVariants as form
+use Rattle.instruction.specs.Form.{Form}
+use Rattle.instruction.specs.Form as form
 
 -- the kind with a size
 abbrev pub kind_sized : ℕ → Kind
-kind_sized n = cond (n == 1) kind.Byte (cond (n == 2) kind.Char kind.Int)
+kind_sized n = unwrap_or (sized_kind n) kind.Int
 
 abbrev pub does : Operation → Instruction
 does o = instruction.Operation o
@@ -88,36 +90,7 @@ table =
 
 -- the line of an opcode; none where it is not listed
 abbrev pub line_in : List Line → ℕ → Option Line
-line_in [] o = None
-line_in (l ∷ ls) o = cond (o == l.opcode) (Some l) (line_in ls o)
+line_in ls o = find (λ l. o == l.opcode) ls
 
 abbrev pub line_of : ℕ → Option Line
 line_of o = line_in table o
-
--- what stands behind an opcode
-abbrev pub form_in : Option Line → Option Form
-form_in None = None
-form_in (Some l) = Some l.form
-
-abbrev pub form_of : ℕ → Option Form
-form_of o = form_in (line_of o)
-
-abbrev form_number : Form → ℕ
-form_number form.Bare = 0
-form_number form.Byte = 1
-form_number form.Unit = 2
-form_number form.Word = 3
-form_number form.Size = 4
-form_number form.Count = 5
-form_number form.Units = 6
-
--- the instruction that an operand makes of an opcode, if its form is the one asked for, and else a halt
-abbrev pub of_form : Form → Form → Instruction → Instruction
-of_form f g i = cond (form_number f == form_number g) i (does op.Halt)
-
-abbrev pub made_in : Form → Option Line → ℕ → Instruction
-made_in f None n = does op.Halt
-made_in f (Some l) n = of_form f l.form (l.make n)
-
-abbrev pub made_of : Form → ℕ → ℕ → Instruction
-made_of f o n = made_in f (line_of o) n

@@ -1,11 +1,12 @@
 // What an instruction does to the shape of the stack, how many bytes it touches, and where control goes.
-ghost use Rattle.std.specs.Prelude.{◌≡◌};
-ghost use Rattle.instruction.specs.Effects.{acts, bytes_of, callee_of, displaced_by, effect_of, falls, operation_effect, plain_entry, reaches, target_of, text_entry};
+ghost use Rattle.std.specs.Prelude.{◌≡◌, Some, None};
+ghost use Rattle.instruction.specs.Effects.{acts, bytes_of, callee_of, displaced_by, effect_of, falls, operation_effect, reaches, target_of, text_entry};
+ghost use Rattle.instruction.specs.declared.effects.Flow.TheVariants.{Next};
 
 use super::operations::{Binary, Branch, Instruction, Opening, Operation, Return};
 use entries::{Entry, EntryKind, Kind};
 
-// What is wanted on a shape.
+// What is wanted on a shape. Nothing is a case like the others: as an option it would be longer in every row below.
 #[derive(Clone, Copy)]
 pub enum Want {
     Nothing,
@@ -34,9 +35,9 @@ pub enum Flow {
     Open(Opening, u32),
 }
 
-// The effect of an instruction. It takes `upper` from the top of the shape and then `lower`; it leaves at most one entry.
-// Through the address that it takes as `lower` it touches so many bytes; 0 where it touches none. What a call and a
-// return take is told by the procedures and not here.
+// The effect of an instruction. It takes `upper` from the top of the shape and then `lower`; it leaves at most one
+// entry. Through the address that it takes as `lower` it touches so many bytes; 0 where it touches none. What a call
+// and a return take is told by the procedures and not here.
 #[derive(Clone, Copy)]
 pub struct Effect {
     pub upper: Want,
@@ -44,26 +45,6 @@ pub struct Effect {
     pub leaves: Option<Entry>,
     pub touches: u8,
     pub flow: Flow,
-}
-
-// The entry of a plain value.
-pub fn plain_entry(kind: Kind) -> Entry
-    ensures { result ≡ plain_entry kind }
-{
-    match kind {
-        Kind::Byte => Entry {
-            kind: EntryKind::Byte,
-            number: 0,
-        },
-        Kind::Char => Entry {
-            kind: EntryKind::Char,
-            number: 0,
-        },
-        Kind::Int => Entry {
-            kind: EntryKind::Int,
-            number: 0,
-        },
-    }
 }
 
 impl Return {
@@ -80,35 +61,51 @@ impl Return {
 }
 
 impl Effect {
-    // Takes and leaves, and touches nothing.
-    fn of(upper: Want, lower: Want, leaves: Option<Entry>, flow: Flow) -> Effect
-        ensures { result ≡ acts upper lower leaves flow }
+    // Takes, touches and leaves nothing, and control goes on to the next instruction.
+    const NONE: Effect = Effect {
+        upper: Want::Nothing,
+        lower: Want::Nothing,
+        leaves: None,
+        touches: 0,
+        flow: Flow::Next,
+    };
+
+    // Takes from the shape, and does nothing else.
+    fn taking(upper: Want, lower: Want) -> Effect
+        ensures { result ≡ acts upper lower None Next }
     {
         Effect {
             upper,
             lower,
-            leaves,
-            touches: 0,
-            flow,
+            ..Effect::NONE
         }
     }
 
     // Touches a value of a kind through an address.
-    fn through(upper: Want, leaves: Option<Entry>, kind: Kind) -> Effect
-        ensures { result ≡ reaches upper leaves kind }
+    fn through(upper: Want, kind: Kind) -> Effect
+        ensures { result ≡ reaches upper None kind }
     {
-        let touches = match kind {
-            Kind::Byte => 1,
-            Kind::Char => 2,
-            Kind::Int => 4,
-        };
         Effect {
             upper,
             lower: Want::Address,
-            leaves,
-            touches,
-            flow: Flow::Next,
+            touches: kind.size() as u8,
+            ..Effect::NONE
         }
+    }
+
+    fn leaving(self, entry: Entry) -> Effect
+        ensures { result ≡ record self { leaves = Some entry } }
+    {
+        Effect {
+            leaves: Some(entry),
+            ..self
+        }
+    }
+
+    fn flowing(self, flow: Flow) -> Effect
+        ensures { result ≡ record self { flow = flow } }
+    {
+        Effect { flow, ..self }
     }
 }
 
@@ -117,88 +114,49 @@ impl Operation {
         ensures { result ≡ operation_effect self }
     {
         let nothing = Want::Nothing;
-        let byte = Want::Exactly(plain_entry(Kind::Byte));
-        let char = Want::Exactly(plain_entry(Kind::Char));
-        let int = Want::Exactly(plain_entry(Kind::Int));
+        let byte = Want::Exactly(Entry::from(Kind::Byte));
+        let char = Want::Exactly(Entry::from(Kind::Char));
+        let int = Want::Exactly(Entry::from(Kind::Int));
         match self {
-            Operation::Halt => Effect::of(nothing, nothing, None, Flow::Halt),
-            Operation::Load(kind) => Effect::through(nothing, Some(plain_entry(kind)), kind),
-            Operation::Store(kind) => Effect::through(Want::Exactly(plain_entry(kind)), None, kind),
-            Operation::Constant(kind, _) => Effect::of(
-                nothing,
-                nothing,
-                Some(plain_entry(kind)),
-                Flow::Next,
-            ),
-            Operation::Text(count) => Effect::of(
-                nothing,
-                nothing,
-                Some(text_entry(count)),
-                Flow::Next,
-            ),
-            Operation::LocalAddress(number) => Effect::of(
-                nothing,
-                nothing,
-                Some(Entry {
-                    kind: EntryKind::Local,
-                    number,
-                }),
-                Flow::Next,
-            ),
-            Operation::GlobalAddress(number) => Effect::of(
-                nothing,
-                nothing,
-                Some(Entry {
-                    kind: EntryKind::Global,
-                    number,
-                }),
-                Flow::Next,
-            ),
-            Operation::Allocate(kind) => Effect::of(
-                nothing,
-                nothing,
-                Some(plain_entry(kind)),
-                Flow::Next,
-            ),
-            Operation::Not => Effect::of(nothing, byte, Some(plain_entry(Kind::Byte)), Flow::Next),
-            Operation::Unary(_) => Effect::of(
-                nothing,
-                int,
-                Some(plain_entry(Kind::Int)),
-                Flow::Next,
-            ),
-            Operation::Binary(Binary::Add) => Effect::of(
-                int,
-                Want::Address,
-                Some(plain_entry(Kind::Int)),
-                Flow::Next,
-            ),
-            Operation::Binary(_) => Effect::of(int, int, Some(plain_entry(Kind::Int)), Flow::Next),
-            Operation::Branch(Branch::Always, distance) => Effect::of(
-                nothing,
-                nothing,
-                None,
-                Flow::Jump(distance),
-            ),
-            Operation::Branch(Branch::When(_), distance) => Effect::of(
-                int,
-                int,
-                None,
-                Flow::Fork(distance),
-            ),
-            Operation::Branch(_, distance) => Effect::of(nothing, byte, None, Flow::Fork(distance)),
-            Operation::ReadChar => Effect::through(nothing, None, Kind::Char),
-            Operation::ReadInt => Effect::through(nothing, None, Kind::Int),
-            Operation::WriteByte => Effect::of(nothing, byte, None, Flow::Next),
-            Operation::WriteChar => Effect::of(nothing, char, None, Flow::Next),
-            Operation::WriteInt => Effect::of(nothing, int, None, Flow::Next),
-            Operation::WriteLine => Effect::of(nothing, nothing, None, Flow::Next),
-            Operation::WriteText(count) => Effect::of(
-                nothing,
-                Want::Exactly(text_entry(count)),
-                None,
-                Flow::Next,
-            ),
+            Operation::Halt => Effect::NONE.flowing(Flow::Halt),
+            Operation::Load(kind) => Effect::through(nothing, kind).leaving(Entry::from(kind)),
+            Operation::Store(kind) => Effect::through(Want::Exactly(Entry::from(kind)), kind),
+            Operation::Constant(kind, _) | Operation::Allocate(kind) => {
+                Effect::NONE.leaving(Entry::from(kind))
+            }
+            Operation::Text(count) => Effect::NONE.leaving(text_entry(count)),
+            Operation::LocalAddress(number) => Effect::NONE.leaving(Entry {
+                kind: EntryKind::Local,
+                number,
+            }),
+            Operation::GlobalAddress(number) => Effect::NONE.leaving(Entry {
+                kind: EntryKind::Global,
+                number,
+            }),
+            Operation::Not => Effect::taking(nothing, byte).leaving(Entry::from(Kind::Byte)),
+            Operation::Unary(_) => Effect::taking(nothing, int).leaving(Entry::from(Kind::Int)),
+            Operation::Binary(Binary::Add) => {
+                Effect::taking(int, Want::Address).leaving(Entry::from(Kind::Int))
+            }
+            Operation::Binary(_) => Effect::taking(int, int).leaving(Entry::from(Kind::Int)),
+            Operation::Branch(Branch::Always, distance) => {
+                Effect::NONE.flowing(Flow::Jump(distance))
+            }
+            Operation::Branch(Branch::When(_), distance) => {
+                Effect::taking(int, int).flowing(Flow::Fork(distance))
+            }
+            Operation::Branch(Branch::Zero | Branch::NotZero, distance) => {
+                Effect::taking(nothing, byte).flowing(Flow::Fork(distance))
+            }
+            Operation::ReadChar => Effect::through(nothing, Kind::Char),
+            Operation::ReadInt => Effect::through(nothing, Kind::Int),
+            Operation::WriteByte => Effect::taking(nothing, byte),
+            Operation::WriteChar => Effect::taking(nothing, char),
+            Operation::WriteInt => Effect::taking(nothing, int),
+            Operation::WriteLine => Effect::NONE,
+            Operation::WriteText(count) => {
+                Effect::taking(nothing, Want::Exactly(text_entry(count)))
+            }
         }
     }
 }
@@ -217,22 +175,11 @@ impl Instruction {
     pub fn effect(self) -> Effect
         ensures { result ≡ effect_of self }
     {
-        let nothing = Want::Nothing;
         match self {
             Instruction::Operation(operation) => operation.effect(),
-            Instruction::Open(opening, size) => Effect::of(
-                nothing,
-                nothing,
-                None,
-                Flow::Open(opening, size),
-            ),
-            Instruction::Call(distance) => Effect::of(nothing, nothing, None, Flow::Call(distance)),
-            Instruction::Return(back) => Effect::of(
-                nothing,
-                nothing,
-                None,
-                Flow::Return(back.bytes()),
-            ),
+            Instruction::Open(opening, size) => Effect::NONE.flowing(Flow::Open(opening, size)),
+            Instruction::Call(distance) => Effect::NONE.flowing(Flow::Call(distance)),
+            Instruction::Return(back) => Effect::NONE.flowing(Flow::Return(back.bytes())),
         }
     }
 }
@@ -242,10 +189,10 @@ impl Flow {
     pub fn falls_through(self) -> bool
         ensures { result ≡ falls self }
     {
-        match self {
-            Flow::Next | Flow::Fork(_) | Flow::Call(_) | Flow::Open(_, _) => true,
-            Flow::Halt | Flow::Jump(_) | Flow::Return(_) => false,
-        }
+        matches!(
+            self,
+            Flow::Next | Flow::Fork(_) | Flow::Call(_) | Flow::Open(_, _)
+        )
     }
 
     // Where a branch leads, given the offset of the next instruction.
@@ -269,7 +216,7 @@ impl Flow {
     }
 }
 
-// An offset and a distance from it, added in 32 bits.
+// An offset and a distance from it, added in 32 bits; not by a cast of the offset, which would have to fit.
 pub fn displaced(next: usize, distance: u32) -> usize
     ensures { result ≡ displaced_by next distance }
 {

@@ -3,6 +3,7 @@
 
 pub mod decoding;
 pub mod effects;
+mod operand;
 pub mod operations;
 
 pub use decoding::{Decoded, decode};

@@ -1,5 +1,5 @@
 -- What is encoded is decoded again, and what is decoded from good bytes is encoded in the same.
-use Rattle.std.proofs.Common.{◌≡◌, ℕ, ◌+◌, ◌-◌, ◌*◌, ◌%◌, ◌<◌, ◌≤◌, Bool, true, false, cond, ◌||◌, eqb, leb, ◌⊎◌, List, [], ◌∷◌, ◌++◌, map, length, get_or, take, drop, Some, None, Option, sym, refl, ap, ◌∙◌, subst, inl, inr, arith}
+use Rattle.std.proofs.Common.{◌≡◌, ℕ, ◌+◌, ◌-◌, ◌*◌, ◌%◌, ◌<◌, ◌≤◌, Bool, true, false, cond, ◌||◌, eqb, leb, ◌⊎◌, List, [], ◌∷◌, ◌++◌, map, length, get_or, take, drop, is_some, Some, None, Option, sym, refl, ap, ◌∙◌, subst, inl, inr, arith}
 use Rattle.std.specs.List.{flat_map, AllByRecursion}
 use Rattle.std.proofs.lemmas.List.{take_all, length-map}
 use Rattle.std.proofs.lemmas.Bool.{cond-true, cond-false, eq-eqb, eqb-true, le-leb, true≢false, or_cases, cases_Bool, leb-true, cases_lt, lt-ltb, le-ltb}
@@ -21,18 +21,16 @@ use Rattle.package.specs.Format.{procedure_body, mark_body}
 
 -- a byte that names a kind is 1, 2 or 4
 by_kind : (P : ℕ → Type 0) → P 1 → P 2 → P 4 → (b : ℕ) → is_kind b ≡ true → P b
-by_kind P one two four b e = go (or_cases (eqb b 1) (eqb b 2 || eqb b 4) e)
+by_kind P one two four b e = go (eqb b 1) (eqb b 2) (eqb b 4) refl refl refl e
   where
     at : (n : ℕ) → P n → eqb b n ≡ true → P b
     at n p t = subst P (sym (eqb-true b n t)) p
 
-    last : (eqb b 2 ≡ true) ⊎ (eqb b 4 ≡ true) → P b
-    last (inl t) = at 2 two t
-    last (inr t) = at 4 four t
-
-    go : (eqb b 1 ≡ true) ⊎ ((eqb b 2 || eqb b 4) ≡ true) → P b
-    go (inl t) = at 1 one t
-    go (inr t) = last (or_cases (eqb b 2) (eqb b 4) t)
+    go : (t u v : Bool) → eqb b 1 ≡ t → eqb b 2 ≡ u → eqb b 4 ≡ v → is_some (cond t (Some kind.Byte) (cond u (Some kind.Char) (cond v (Some kind.Int) None))) ≡ true → P b
+    go true u v et eu ev s = at 1 one et
+    go false true v et eu ev s = at 2 two eu
+    go false false true et eu ev s = at 4 four ev
+    go false false false et eu ev s = absurd (true≢false (sym s))
 
 pub kind-back : (b : ℕ) → is_kind b ≡ true → size_of (kind_of b) ≡ b
 kind-back = by_kind (λ b. size_of (kind_of b) ≡ b) refl refl refl

@@ -1,15 +1,15 @@
 -- What reading keeps of the fields before a place.
 use Rattle.std.specs.Prelude.{ℕ, ◌+◌, ◌-◌, cond, List, length, take, drop, Ok, Err, Result, ◌==◌}
 use Rattle.package.specs.declared.faults.ReadFault.{ReadFault}
-use Rattle.fields.specs.declared.Field.{Field}
+use Rattle.package.specs.declared.shaped.Shaped.{Shaped}
 use Rattle.package.specs.declared.reading.Tally.{Tally}
 use Rattle.fields.specs.Bytes.{two}
 use Rattle.fields.specs.Fields.{Cut, seen_field}
 use Rattle.package.specs.Package.{Package}
 use Rattle.declarations.specs.Views.{procedures_in, marks_in}
 
-abbrev pub field_told : Result Field ReadFault → Result Cut ReadFault
-field_told (Ok f) = Ok (seen_field f)
+abbrev pub field_told : Result Shaped ReadFault → Result Cut ReadFault
+field_told (Ok s) = Ok (seen_field s.field)
 field_told (Err e) = Err e
 
 -- the place behind a field

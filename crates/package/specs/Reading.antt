@@ -2,14 +2,12 @@
 use Rattle.std.specs.Prelude.{◌≡◌, ℕ, zero, suc, ◌+◌, ◌<◌, ◌≤◌, true, false, cond, List, [], ◌∷◌, ◌++◌, length, Some, None, Ok, Err, Option, Result, ◌==◌, ◌≢◌}
 use Rattle.package.specs.declared.faults.ReadFault.{ReadFault}
 use Rattle.package.specs.declared.faults.ReadFault.TheVariants.{PastEnd, WrongTag, WrongLength, WrongContent, WrongCount}
-use Rattle.package.specs.declared.views.ReadPackage.{ReadPackage}
 use Rattle.fields.specs.Fields.{cut, Cut}
 use Rattle.package.specs.Format.{encode, Sound, Valid}
 use Rattle.declarations.specs.Procedures.{procedure_of}
 use Rattle.declarations.specs.Marks.{Mark, mark_of}
 use Rattle.package.specs.Package.{Package}
 use Rattle.package.specs.Rules.{misplaced, misshapen, unfit, miscounted, last_offset, broken}
-use Rattle.package.specs.Views.{package_seen}
 
 -- the number of each refusal
 abbrev pub number : ReadFault → ℕ
@@ -70,11 +68,6 @@ read_from (suc n) p k rest = turned (read_from n) p k rest
 -- The answer of reading: the package, or the first fault.
 unfoldable pub reading : List ℕ → Result Package ReadFault
 reading xs = read_from (suc (length xs)) 0 nothing xs
-
--- the answer that a call gave, by what its view shows
-abbrev pub answered : Result ReadPackage ReadFault → Result Package ReadFault
-answered (Ok r) = Ok (package_seen r)
-answered (Err e) = Err e
 
 -- Accepts exactly: where the answer is a package, it is valid, the bytes encode it, and they encode no other valid
 -- package; where it is a refusal, they encode no valid package.

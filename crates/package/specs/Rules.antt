@@ -1,5 +1,6 @@
 -- The rules of reading, each a test of the field at the front of some bytes, behind the fields before it.
-use Rattle.std.specs.Prelude.{ℕ, ◌+◌, ◌-◌, ◌%◌, Bool, false, cond, not, ◌&&◌, ◌||◌, List, [], ◌∷◌, length, drop, is_some, Some, None, Option, ◌==◌, nat_le, nat_lt, slice_index}
+use Rattle.std.specs.Prelude.{ℕ, ◌+◌, ◌-◌, ◌%◌, Bool, false, cond, not, ◌&&◌, ◌||◌, List, [], ◌∷◌, length, drop, is_some, Option, ◌==◌, nat_le, nat_lt, slice_index}
+use Rattle.std.specs.Option.{option_map_or}
 use Rattle.fields.specs.Bytes.{two}
 use Rattle.fields.specs.Fields.{cut, Cut}
 use Rattle.declarations.specs.Kinds.{are_kinds, is_result}
@@ -59,8 +60,7 @@ miscounted procedures marks = procedures == 0 || (nat_lt 64 procedures || nat_lt
 
 -- a test of the field at the front of some bytes, if there is a whole one
 abbrev pub of_field : Option Cut → (Cut → Bool) → Bool
-of_field None test = false
-of_field (Some f) test = test f
+of_field o test = option_map_or test o false
 
 abbrev pub none : List ℕ → Bool
 none rest = length rest == 0

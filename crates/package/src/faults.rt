@@ -1,6 +1,10 @@
 // Why bytes are no package.
-ghost use Rattle.std.specs.Prelude.{◌≡◌};
+ghost use Rattle.std.specs.Prelude.{◌≡◌, Some};
+ghost use Rattle.package.specs.Printing.{refusal_text};
 ghost use Rattle.package.specs.Reading.{number, place};
+
+use std::error::Error;
+use std::fmt;
 
 // A refusal of reading, with the place of the bad field: where its tag stands, counted in bytes from the first.
 #[derive(Clone, Copy, PartialEq, Eq, Debug)]
@@ -18,6 +22,7 @@ pub enum ReadFault {
 }
 
 impl ReadFault {
+    // The number by which authors know the refusal.
     pub fn number(&self) -> u8
         ensures { result ≡ number self.now }
     {
@@ -34,11 +39,24 @@ impl ReadFault {
         ensures { result ≡ place self.now }
     {
         match *self {
-            ReadFault::PastEnd(place) => place,
-            ReadFault::WrongTag(place) => place,
-            ReadFault::WrongLength(place) => place,
-            ReadFault::WrongContent(place) => place,
-            ReadFault::WrongCount(place) => place,
+            ReadFault::PastEnd(place)
+            | ReadFault::WrongTag(place)
+            | ReadFault::WrongLength(place)
+            | ReadFault::WrongContent(place)
+            | ReadFault::WrongCount(place) => place,
         }
     }
 }
+
+// "refused", the number, "at" and the place.
+impl fmt::Display for ReadFault {
+    ghost output = { λ fault. Some (refusal_text (number fault) (place fault)) };
+
+    fn fmt<W: fmt::Write>(&self, f: &mut fmt::Formatter<W>) -> fmt::Result {
+        let number = self.number();
+        let place = self.place();
+        write!(f, "refused {number} at {place}")
+    }
+}
+
+impl Error for ReadFault {}

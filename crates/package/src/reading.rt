@@ -1,54 +1,35 @@
 // Reading: from bytes to a package, or to the first thing that is wrong with them.
-ghost use Rattle.std.specs.Prelude.{◌≡◌, ◌+◌, ◌^◌, ◌<◌, ◌≤◌, false, length};
-ghost use Rattle.fields.specs.Bytes.{two};
+ghost use Rattle.std.specs.Prelude.{◌≡◌, ◌+◌, ◌^◌, ◌<◌, ◌≤◌, length};
 ghost use Rattle.fields.specs.Fields.{cut, seen_field};
-ghost use Rattle.package.specs.Reading.{AcceptsExactly, RefusesFirst, answered, judged, reading};
-ghost use Rattle.package.specs.Rules.{miscounted, misplaced, misshapen, unfit, unfit_mark, unfit_procedure};
+ghost use Rattle.package.specs.Format.{Valid};
+ghost use Rattle.package.specs.Reading.{AcceptsExactly, RefusesFirst, judged, reading};
+ghost use Rattle.package.specs.Rules.{miscounted, misplaced, unfit, unfit_mark, unfit_procedure};
+ghost use Rattle.package.specs.Tags.{tag_byte};
 ghost use Rattle.package.specs.Judging.{field_told, package_within, tallied};
 ghost use Rattle.declarations.specs.Views.{marks_in};
-ghost use Rattle.package.specs.Views.{package_seen};
 
 use super::faults::ReadFault;
+use super::shaped::{Shaped, Tag};
 use super::views::ReadPackage;
 use declarations::marks::{find_mark, has_entries};
 use declarations::procedures::{has_kinds, is_result};
-use fields::{Field, next_field};
-
-// The tags of fields.
-const CODE: u8 = 1;
-
-const PROCEDURE: u8 = 2;
-
-const MARK: u8 = 3;
+use declarations::{MarkView, ProcedureView};
+use fields::next_field;
 
 // The limits of the format.
-const MOST_CODE: usize = 8192;
-
 const MOST_PROCEDURES: usize = 64;
 
 const MOST_MARKS: usize = 512;
 
-const MOST_LOCALS: usize = 4096;
+const MOST_LOCALS: u16 = 4096;
 
-const MOST_DEPTH: usize = 2000;
-
-const MOST_PARAMETERS: u8 = 8;
-
-// A procedure's body without its parameters, a mark's without its entries, and an entry.
-const PROCEDURE_SIZE: usize = 8;
-
-const MARK_SIZE: usize = 2;
-
-const ENTRY_SIZE: usize = 3;
-
-// A mark's body with as many entries as it may have, which are 16.
-const MOST_MARK_SIZE: usize = MARK_SIZE + 16 * ENTRY_SIZE;
+const MOST_DEPTH: u16 = 2000;
 
 // Reads a package: a view of the bytes, or the first bad field with the lowest number that is broken there.
 pub fn read<'a>(bytes: &'a [u8]) -> Result<ReadPackage<'a>, ReadFault>
-    ensures answers { answered result ≡ reading bytes.now }
-    ensures accepts_exactly { AcceptsExactly bytes.now (answered result) }
-    ensures refuses_first { RefusesFirst bytes.now (answered result) }
+    ensures answers { result ≡ reading bytes.now }
+    ensures accepts_exactly { AcceptsExactly bytes.now result }
+    ensures refuses_first { RefusesFirst bytes.now result }
 {
     let mut tally = Tally {
         at: 0,
@@ -59,11 +40,12 @@ pub fn read<'a>(bytes: &'a [u8]) -> Result<ReadPackage<'a>, ReadFault>
         fore: 0,
     };
     let mut rest = bytes;
-    while rest.len() > 0 {
+    // Not a `for` over `Fields`: that ends where a field is cut, and here the cut is a refusal.
+    while !rest.is_empty() {
         let marked = &bytes[tally.fore..tally.at];
-        let field = judge(rest, &tally, marked)?;
-        tally.include(&field);
-        rest = field.rest;
+        let shaped = judge(rest, &tally, marked)?;
+        tally.include(&shaped);
+        rest = shaped.field.rest;
     }
     if tally.miscounts() {
         return Err(ReadFault::WrongCount(tally.at));
@@ -75,7 +57,8 @@ pub fn read<'a>(bytes: &'a [u8]) -> Result<ReadPackage<'a>, ReadFault>
 fn view<'a>(bytes: &'a [u8], tally: &Tally) -> ReadPackage<'a>
     requires code { 3 + tally.now.code ≤ tally.now.fore }
     requires fore { tally.now.fore ≤ length bytes.now }
-    ensures { package_seen result ≡ package_within bytes.now tally.now.code tally.now.fore }
+    requires valid { Valid (package_within bytes.now tally.now.code tally.now.fore) }
+    ensures { result ≡ package_within bytes.now tally.now.code tally.now.fore }
 {
     let opening = 3 + tally.code;
     let marking = tally.fore;
@@ -86,15 +69,16 @@ fn view<'a>(bytes: &'a [u8], tally: &Tally) -> ReadPackage<'a>
     }
 }
 
-// What the fields before a place hold, in numbers.
+// What the fields before a place hold, in numbers. The bytes of the marks go beside it as an argument: a definition
+// makes these numbers anew for each field, and a borrow of the bytes has no place in it.
 #[derive(Drop)]
 struct Tally {
     // the place, in bytes from the first
     at: usize,
-    // bytes of code; 0 while the code field has not come
+    // bytes of code, which has at least one; 0 while its field has not come
     code: usize,
     procedures: usize,
-    // the offset of the last procedure
+    // the offset of the last procedure; 0 before the first, as the rules take it
     last: usize,
     marks: usize,
     // where the first mark stands, or may stand next
@@ -102,15 +86,14 @@ struct Tally {
 }
 
 impl Tally {
-    fn misplaces(&self, tag: u8) -> bool
-        ensures { result ≡ misplaced self.now.code self.now.marks tag }
+    // Whether a field with a tag may not stand here.
+    fn misplaces(&self, tag: Tag) -> bool
+        ensures { result ≡ misplaced self.now.code self.now.marks (tag_byte tag) }
     {
-        if self.code == 0 {
-            return tag != CODE;
-        }
         match tag {
-            PROCEDURE => self.marks > 0,
-            _ => tag != MARK,
+            Tag::Code => self.code > 0,
+            Tag::Procedure => self.code == 0 || self.marks > 0,
+            Tag::Mark => self.code == 0,
         }
     }
 
@@ -119,10 +102,9 @@ impl Tally {
         requires { 8 ≤ length body.now }
         ensures { result ≡ unfit_procedure self.now.code self.now.procedures self.now.last body.now }
     {
-        let offset = two_bytes(body, 0);
-        let locals = two_bytes(body, 2);
-        let depth = two_bytes(body, 4);
-        if offset >= self.code || locals > MOST_LOCALS || depth > MOST_DEPTH {
+        let procedure = ProcedureView::of(body);
+        let offset = usize::from(procedure.offset);
+        if offset >= self.code || procedure.locals > MOST_LOCALS || procedure.depth > MOST_DEPTH {
             return true;
         }
         let result = body[6];
@@ -140,42 +122,42 @@ impl Tally {
         requires { 2 ≤ length body.now }
         ensures { result ≡ unfit_mark self.now.code (marks_in marked.now) body.now }
     {
-        let offset = two_bytes(body, 0);
+        let offset = usize::from(MarkView::of(body).offset);
         offset >= self.code || !has_entries(body) || find_mark(marked, offset).is_some()
     }
 
     // Whether anything but tag, length and counts is wrong with a field. The marks before it are given.
-    fn rejects(&self, field: &Field<'_>, marked: &[u8]) -> bool
-        requires { misshapen field.now.tag field.now.body.now ≡ false }
-        ensures { result ≡ unfit self.now.code self.now.procedures self.now.last (marks_in marked.now) field.now.tag field.now.body.now }
+    fn rejects(&self, shaped: &Shaped<'_>, marked: &[u8]) -> bool
+        ensures { result ≡ unfit self.now.code self.now.procedures self.now.last (marks_in marked.now) shaped.now.field.tag shaped.now.field.body.now }
     {
-        match field.tag {
-            CODE => false,
-            PROCEDURE => self.rejects_procedure(field.body),
-            _ => self.rejects_mark(field.body, marked),
+        let body = shaped.field.body;
+        match shaped.tag {
+            Tag::Code => false,
+            Tag::Procedure => self.rejects_procedure(body),
+            Tag::Mark => self.rejects_mark(body, marked),
         }
     }
 
-    // Counts one more field, whose length is right.
-    fn include(&mut self, field: &Field<'_>)
-        requires shape { misshapen field.now.tag field.now.body.now ≡ false }
-        requires room { self.old.at + (3 + length field.now.body.now) < 2 ^ 64 }
+    // Counts one more field.
+    fn include(&mut self, shaped: &Shaped<'_>)
+        requires room { self.old.at + (3 + length shaped.now.field.body.now) < 2 ^ 64 }
         requires procedures { self.old.procedures ≤ self.old.at }
         requires marks { self.old.marks ≤ self.old.at }
-        ensures { self.new ≡ tallied self.old (seen_field field.now) }
+        ensures { self.new ≡ tallied self.old (seen_field shaped.now.field) }
     {
-        self.at += 3 + field.body.len();
-        match field.tag {
-            CODE => {
-                self.code = field.body.len();
+        let body = shaped.field.body;
+        self.at += 3 + body.len();
+        match shaped.tag {
+            Tag::Code => {
+                self.code = body.len();
                 self.fore = self.at;
             }
-            PROCEDURE => {
+            Tag::Procedure => {
                 self.procedures += 1;
-                self.last = two_bytes(field.body, 0);
+                self.last = usize::from(ProcedureView::of(body).offset);
                 self.fore = self.at;
             }
-            _ => self.marks += 1,
+            Tag::Mark => self.marks += 1,
         }
     }
 
@@ -187,43 +169,25 @@ impl Tally {
 }
 
 // The field at the front of the rest, or what is wrong with it. The marks before it are given.
-fn judge<'a>(rest: &'a [u8], tally: &Tally, marked: &[u8]) -> Result<Field<'a>, ReadFault>
+fn judge<'a>(rest: &'a [u8], tally: &Tally, marked: &[u8]) -> Result<Shaped<'a>, ReadFault>
     ensures { field_told result ≡ judged tally.now.code tally.now.procedures tally.now.last tally.now.marks (marks_in marked.now) tally.now.at (cut rest.now) }
 {
     let at = tally.at;
     let Some(field) = next_field(rest) else {
         return Err(ReadFault::PastEnd(at));
     };
-    if tally.misplaces(field.tag) {
+    let Ok(tag) = Tag::try_from(field.tag) else {
+        return Err(ReadFault::WrongTag(at));
+    };
+    if tally.misplaces(tag) {
         return Err(ReadFault::WrongTag(at));
     }
-    if has_wrong_length(field.tag, field.body) {
+    if tag.has_wrong_length(field.body) {
         return Err(ReadFault::WrongLength(at));
     }
-    if tally.rejects(&field, marked) {
+    let shaped = Shaped { tag, field };
+    if tally.rejects(&shaped, marked) {
         return Err(ReadFault::WrongContent(at));
     }
-    Ok(field)
-}
-
-// The two-byte number at a place.
-fn two_bytes(bytes: &[u8], at: usize) -> usize
-    requires { at + 1 < length bytes.now }
-    ensures { result ≡ two bytes.now at }
-{
-    u16::from_be_bytes([bytes[at], bytes[at + 1]]) as usize
-}
-
-// Whether the length of a field's body, or a count in it, is wrong.
-fn has_wrong_length(tag: u8, body: &[u8]) -> bool
-    ensures { result ≡ misshapen tag body.now }
-{
-    let size = body.len();
-    match tag {
-        CODE => size == 0 || size > MOST_CODE,
-        PROCEDURE => size < PROCEDURE_SIZE
-            || body[7] > MOST_PARAMETERS
-            || size != PROCEDURE_SIZE + body[7] as usize,
-        _ => size < MARK_SIZE || size > MOST_MARK_SIZE || (size - MARK_SIZE) % ENTRY_SIZE != 0,
-    }
+    Ok(shaped)
 }

@@ -4,8 +4,6 @@ use Rattle.entries.specs.declared.Entry.{Entry}
 use Rattle.declarations.specs.Views.{procedure_seen}
 use Rattle.package.specs.Package.{Package}
 use Rattle.instruction.specs.declared.decoding.Decoded.{Decoded}
-use Rattle.shape.specs.declared.Shape.{Shape}
-use Rattle.shape.specs.Shapes.{shape_in}
 use Rattle.rules.specs.declared.rule.Rule.{Rule}
 use Rattle.rules.specs.declared.sites.SiteView.{SiteView}
 use Rattle.rules.specs.Sites.{Site, broken_at, instruction_rules, lowest, onward, site_at}
@@ -16,11 +14,11 @@ site_seen s =
       owner = procedure_seen s.owner;
       effect = s.effect;
       next = s.next;
-      mark = shape_in s.mark;
-      carry = shape_in s.carry;
-      before = shape_in s.before;
-      under = shape_in s.under;
-      rest = shape_in s.rest;
+      mark = s.mark;
+      carry = s.carry;
+      before = s.before;
+      under = s.under;
+      rest = s.rest;
     }
 
 -- the rule that is found broken, or else what falls on
@@ -31,7 +29,3 @@ settled (Some r) c = Err r
 abbrev pub judged_at : Package → ℕ → Option (List Entry) → Option Decoded → Result (Option (List Entry)) Rule
 judged_at k x c None = Ok None
 judged_at k x c (Some d) = settled (lowest instruction_rules (broken_at k (site_at k x c d))) (onward (site_at k x c d))
-
-abbrev pub judged : Result (Option Shape) Rule → Result (Option (List Entry)) Rule
-judged (Ok o) = Ok (shape_in o)
-judged (Err r) = Err r

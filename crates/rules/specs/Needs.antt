@@ -1,28 +1,28 @@
 -- What an instruction needs on the shape before it, and what is there without that.
 use Rattle.std.specs.Prelude.{ℕ, Bool, false, cond, not, List, [], ◌∷◌, Some, None, Option}
+use Rattle.std.specs.Option.{option_and_then, option_map_or, option_or}
 use Rattle.entries.specs.declared.Kind.{Kind}
 use Rattle.entries.specs.declared.Entry.{Entry}
 use Rattle.entries.specs.Alike.{same_entry}
+use Rattle.entries.specs.Kinds.{plain_entry}
 use Rattle.declarations.specs.Procedures.{Procedure}
 use Rattle.package.specs.Package.{Package}
 use Rattle.instruction.specs.declared.effects.Want.{Want}
 use Rattle.instruction.specs.declared.effects.Want.TheVariants.{Exactly}
 use Rattle.instruction.specs.declared.effects.Flow.{Flow}
 use Rattle.instruction.specs.declared.effects.Flow.TheVariants as flow
-use Rattle.instruction.specs.Effects.{displaced_by, plain_entry}
+use Rattle.instruction.specs.Effects.{displaced_by}
 use Rattle.shape.specs.Shapes.{same_shape, taken, top_of}
 use Rattle.rules.specs.Asking.{procedure_at}
 
 abbrev pub and_then : {A B : Type 0} → Option A → (A → Option B) → Option B
-and_then None f = None
-and_then (Some a) f = f a
+and_then o f = option_and_then f o
 
 -- the shape before an instruction
 
 -- a mark's, or else what falls in
 abbrev pub mark_or : Option (List Entry) → Option (List Entry) → Option (List Entry)
-mark_or None c = c
-mark_or (Some m) c = Some m
+mark_or m c = option_or m c
 
 -- an opening asks for nothing; the shape before it counts as empty
 abbrev pub shape_before : Bool → Option (List Entry) → Option (List Entry) → Option (List Entry)
@@ -45,8 +45,7 @@ under_arguments [] σ = Some σ
 under_arguments (k ∷ ks) σ = and_then (under_arguments ks σ) (taken (argument k))
 
 abbrev pub top_is : Entry → Option Entry → Bool
-top_is e None = false
-top_is e (Some d) = same_entry d e
+top_is e o = option_map_or (λ d. same_entry d e) o false
 
 -- the result's entry, if there is a result, stands under the arguments, and stays
 abbrev pub over_result : Option Kind → List Entry → Option (List Entry)

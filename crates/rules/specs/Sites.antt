@@ -1,6 +1,7 @@
 -- The rules at an instruction where it stands.
-use Rattle.std.specs.Prelude.{ℕ, Bool, false, cond, not, ◌&&◌, ◌||◌, List, [], ◌∷◌, length, is_some, Some, None, Option, ◌==◌, nat_lt}
-use Rattle.std.specs.Option.{option_map}
+use Rattle.std.specs.Prelude.{ℕ, Bool, false, cond, not, ◌&&◌, ◌||◌, List, [], ◌∷◌, length, is_some, None, Option, ◌==◌, nat_lt}
+use Rattle.std.specs.List.{find}
+use Rattle.std.specs.Option.{option_map, option_map_or}
 use Rattle.entries.specs.declared.Entry.{Entry}
 use Rattle.declarations.specs.Procedures.{Procedure}
 use Rattle.package.specs.Package.{Package}
@@ -45,8 +46,7 @@ abbrev pub onward : Site → Option (List Entry)
 onward s = cond (falls s.effect.flow) (left_by s) None
 
 abbrev pub some : {A : Type 0} → Option A → (A → Bool) → Bool
-some None f = false
-some (Some a) f = f a
+some o f = option_map_or f o false
 
 -- a branch must lead to a mark of its procedure, and a call to a procedure other than the program
 abbrev pub no_mark : Package → Procedure → ℕ → Bool
@@ -85,5 +85,4 @@ instruction_rules =
 
 -- the first of some rules that is broken
 abbrev pub lowest : List Rule → (Rule → Bool) → Option Rule
-lowest [] p = None
-lowest (r ∷ rs) p = cond (p r) (Some r) (lowest rs p)
+lowest rs p = find p rs

@@ -1,7 +1,6 @@
 // The rule on places: where procedures open and where marks stand.
 ghost use Rattle.std.specs.Prelude.{◌≡◌};
 ghost use Rattle.instruction.specs.Decoding.{decoded};
-ghost use Rattle.package.specs.Views.{package_seen};
 ghost use Rattle.rules.specs.Places.{flow_in, is_opening, misplaced, opens_as, opens_with};
 
 use instruction::{Flow, Opening, decode};
@@ -9,7 +8,7 @@ use package::ReadPackage;
 
 // Whether the rule on places is broken at an offset, which is a start or not.
 pub fn is_misplaced(read: &ReadPackage<'_>, at: usize, start: bool) -> bool
-    ensures { result ≡ misplaced (package_seen read.now) at start }
+    ensures { result ≡ misplaced read.now at start }
 {
     let owner = read.owner(at);
     let marked = read.mark_at(at).is_some();
@@ -21,7 +20,8 @@ pub fn is_misplaced(read: &ReadPackage<'_>, at: usize, start: bool) -> bool
     }
 }
 
-// Where control goes from an offset; nowhere where no instruction decodes there.
+// Where control goes from an offset; nowhere where no instruction decodes: what is not there opens nothing, like a
+// halt.
 fn flow_at(code: &[u8], at: usize) -> Flow
     ensures { result ≡ flow_in (decoded code.now at) }
 {
@@ -34,10 +34,7 @@ fn flow_at(code: &[u8], at: usize) -> Flow
 fn is_opening(flow: Flow) -> bool
     ensures { result ≡ is_opening flow }
 {
-    match flow {
-        Flow::Open(_, _) => true,
-        _ => false,
-    }
+    matches!(flow, Flow::Open(_, _))
 }
 
 // Whether an instruction at an offset opens a procedure with so many bytes of variables.

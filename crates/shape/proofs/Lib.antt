@@ -1,4 +1,2 @@
 pub mod Rows
-pub mod Sizing
-pub mod Comparing
 pub mod Equal

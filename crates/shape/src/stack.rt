@@ -1,8 +1,8 @@
 // Entries on a shape.
 ghost use Rattle.std.specs.Prelude.{◌≡◌, [], length, ◌==◌, nat_lt};
-ghost use Rattle.shape.specs.Shapes.{Left, Popped, Pushed, Taken, fits, same_shape, shape_size, stack_of, top_of};
+ghost use Rattle.shape.specs.Shapes.{Left, Popped, Pushed, Taken, fits, shape_size, top_of};
 
-use super::{BLANK, MOST_ENTRIES, Shape};
+use super::{BLANK, Full, MOST_ENTRIES, Shape};
 use entries::Entry;
 use instruction::Want;
 
@@ -12,7 +12,7 @@ pub fn fits_want(entry: Entry, want: Want) -> bool
 {
     match want {
         Want::Nothing => true,
-        Want::Exactly(wanted) => entry.same(wanted),
+        Want::Exactly(wanted) => entry == wanted,
         Want::Address => entry.is_address(),
     }
 }
@@ -20,7 +20,7 @@ pub fn fits_want(entry: Entry, want: Want) -> bool
 impl Shape {
     // The shape with no entry.
     pub fn empty() -> Shape
-        ensures { stack_of result ≡ [] }
+        ensures { result ≡ [] }
     {
         Shape {
             rows: [BLANK; 16],
@@ -29,100 +29,78 @@ impl Shape {
     }
 
     pub fn is_empty(&self) -> bool
-        ensures { result ≡ (length (stack_of self.now) == 0) }
+        ensures { result ≡ (length self.now == 0) }
     {
         self.count == 0
     }
 
-    // One entry more on top; false, and nothing changed, where sixteen are held.
-    pub fn push(&mut self, entry: Entry) -> bool
+    // One entry more on top; an error, and nothing changed, where sixteen are held.
+    pub fn push(&mut self, entry: Entry) -> Result<(), Full>
         ensures { Pushed result entry self.old self.new }
     {
-        let count = self.count;
-        if count >= MOST_ENTRIES {
-            return false;
+        if self.count == MOST_ENTRIES {
+            return Err(Full);
         }
-        let row = &mut self.rows[count];
+        let row = &mut self.rows[self.count];
         *row = entry;
-        self.count = count + 1;
-        true
+        self.count += 1;
+        Ok(())
     }
 
     // Takes the entry on top.
     pub fn pop(&mut self) -> Option<Entry>
         ensures { Popped result self.old self.new }
     {
-        let count = self.count;
-        if count == 0 {
+        if self.count == 0 {
             return None;
         }
-        let row = &mut self.rows[count - 1];
+        self.count -= 1;
+        let row = &mut self.rows[self.count];
         let entry = *row;
         *row = BLANK;
-        self.count = count - 1;
         Some(entry)
     }
 
     // The entry on top.
     pub fn top(&self) -> Option<Entry>
-        ensures { result ≡ top_of (stack_of self.now) }
+        ensures { result ≡ top_of self.now }
     {
-        let mut copy = *self;
-        copy.pop()
+        self.rows[..self.count].last().copied()
     }
 
-    // Takes what is wanted from the top; false where it is not there.
-    pub fn take(&mut self, want: Want) -> bool
+    // Takes what is wanted from the top; none where it is not there.
+    pub fn take(&mut self, want: Want) -> Option<()>
         ensures { Taken want self.old self.new result }
     {
         match want {
-            Want::Nothing => true,
+            Want::Nothing => Some(()),
             _ => {
-                let Some(entry) = self.pop() else {
-                    return false;
-                };
-                fits_want(entry, want)
+                let entry = self.pop()?;
+                fits_want(entry, want).then_some(())
             }
         }
     }
 
-    // Leaves an entry on top, if there is one to leave; false where sixteen are held.
-    pub fn leave(&mut self, entry: Option<Entry>) -> bool
+    // Leaves an entry on top, if there is one to leave; an error where sixteen are held.
+    pub fn leave(&mut self, entry: Option<Entry>) -> Result<(), Full>
         ensures { Left entry self.old self.new result }
     {
+        // With nothing to leave, too, at most sixteen are held.
+        prove!(self.count <= MOST_ENTRIES);
         match entry {
             Some(entry) => self.push(entry),
-            None => true,
+            None => Ok(()),
         }
-    }
-
-    // Whether two shapes have the same entries.
-    pub fn same(&self, other: &Shape) -> bool
-        ensures { result ≡ same_shape (stack_of self.now) (stack_of other.now) }
-    {
-        if self.count != other.count {
-            return false;
-        }
-        let mut left = self.count;
-        while left > 0 {
-            left -= 1;
-            let mine = self.rows[left];
-            let theirs = other.rows[left];
-            if !mine.same(theirs) {
-                return false;
-            }
-        }
-        true
     }
 
     // Whether the entries take more bytes than a limit.
     pub fn exceeds(&self, limit: u16) -> bool
-        ensures { result ≡ nat_lt limit (shape_size (stack_of self.now)) }
+        ensures { result ≡ nat_lt limit (shape_size self.now) }
     {
-        let mut size = 0;
-        for i in 0..self.count {
-            size += self.rows[i].size();
-        }
+        let size: usize = self.rows[..self.count]
+            .iter()
+            .map(|entry| entry.size())
+            .sum();
         size > usize::from(limit)
     }
 }

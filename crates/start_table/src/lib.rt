@@ -1,31 +1,48 @@
 // The table of starts: where instructions start in the code.
 #![tactic(auto)]
 
-ghost use Rattle.std.specs.Prelude.{◌≡◌, ◌≤◌, length};
-ghost use Rattle.start_table.specs.Wiping.{wiped};
+ghost use Rattle.std.specs.Prelude.{◌≡◌, ◌<◌, length, replicate};
+ghost use Rattle.start_table.specs.Table.{Kept, Over, TellsMore, size, told};
 
-pub mod starts;
+// What a byte of the table holds where an instruction starts.
+const START: u8 = 1;
 
-// A table in lent bytes, one for each byte of code. When it ends, those bytes are zero again.
+// A table in lent bytes, one for each byte of code. When it ends, they are zero again.
 pub struct StartTable<'a> {
-    work: &'a mut [u8],
-    size: usize,
-    ghost fits: { size ≤ length work.now },
+    bytes: &'a mut [u8],
 }
 
 impl Drop for StartTable<'_> {
     fn drop(self)
-        ensures { self.exit.0.now ≡ wiped self.entry.size self.entry.work.now }
+        ensures { self.exit.0.now ≡ replicate (length self.entry.bytes.now) 0 }
     {
-        let StartTable { work, size } = self;
-        wipe(work, size);
+        let StartTable { bytes } = self;
+        bytes.fill(0);
     }
 }
 
-// Zeroes the first bytes of a work area.
-fn wipe(work: &mut [u8], size: usize)
-    requires { size ≤ length work.old }
-    ensures { work.new ≡ wiped size work.old }
-{
-    work[0..size].fill(0);
+#[tactic(auto, unfolding(crate::specs::Table::told))]
+impl<'a> StartTable<'a> {
+    // A table in which no start is told.
+    pub fn new(work: &'a mut [u8]) -> StartTable<'a>
+        ensures { Over work.entry result }
+    {
+        work.fill(0);
+        StartTable { bytes: work }
+    }
+
+    pub fn set_start(&mut self, at: usize)
+        requires { at < size self.old }
+        ensures tells { TellsMore at self.old self.new }
+        ensures kept { Kept self.old self.new }
+    {
+        self.bytes[at] = START;
+    }
+
+    // Whether a start is told at an offset; none is behind the code.
+    pub fn is_start(&self, at: usize) -> bool
+        ensures { result ≡ told self.now at }
+    {
+        self.bytes.get(at) == Some(&START)
+    }
 }

@@ -1,6 +1,6 @@
 -- Where a package breaks the rules.
-use Rattle.std.specs.Prelude.{◌≡◌, ℕ, zero, suc, ◌<◌, Bool, true, false, cond, not, ◌&&◌, ◌⊎◌, List, [], ◌∷◌, length, is_some, Some, None, Option}
-use Rattle.std.specs.Option.{option_map}
+use Rattle.std.specs.Prelude.{◌≡◌, ℕ, zero, suc, ◌<◌, Bool, true, false, cond, not, ◌&&◌, ◌⊎◌, List, [], ◌∷◌, length, is_some, None, Option}
+use Rattle.std.specs.Option.{option_map, option_or}
 use Rattle.entries.specs.declared.Entry.{Entry}
 use Rattle.package.specs.Package.{Package}
 use Rattle.instruction.specs.Decoding.{decoded}
@@ -46,12 +46,10 @@ pub record Breach : Type 0 where
   pub place : ℕ
 
 abbrev pub breach_at : ℕ → Option Rule → Option Breach
-breach_at x None = None
-breach_at x (Some r) = Some (record { rule = r; place = x })
+breach_at x o = option_map (λ r. record { rule = r; place = x }) o
 
 abbrev pub or_else : Option Breach → Option Breach → Option Breach
-or_else None b = b
-or_else (Some a) b = Some a
+or_else a b = option_or a b
 
 -- the first offset below n at which a rule is found broken, with the rule
 unfoldable pub first_below : (ℕ → Option Rule) → ℕ → Option Breach

@@ -1,10 +1,13 @@
 // What clearing answers, and the laws of its answers.
 #![tactic(auto)]
 
-ghost use Rattle.std.specs.Prelude.{◌≡◌};
+ghost use Rattle.std.specs.Prelude.{◌≡◌, Some};
+ghost use Rattle.package.specs.Printing.{refusal_text};
 ghost use Rattle.verdict.specs.Numbers.{number, place};
 
 use rules::Rule;
+use std::error::Error;
+use std::fmt;
 
 // A refusal of clearing.
 #[derive(Clone, Copy, PartialEq, Eq, Debug)]
@@ -16,6 +19,7 @@ pub enum ClearFault {
 }
 
 impl ClearFault {
+    // The number by which authors know the refusal.
     pub fn number(&self) -> u8
         ensures { result ≡ number self.now }
     {
@@ -34,3 +38,17 @@ impl ClearFault {
         }
     }
 }
+
+// "refused", the number, "at" and the place, as refusals of reading print them. It is written for each type, since a
+// derived `Display` has no contract.
+impl fmt::Display for ClearFault {
+    ghost output = { λ fault. Some (refusal_text (number fault) (place fault)) };
+
+    fn fmt<W: fmt::Write>(&self, f: &mut fmt::Formatter<W>) -> fmt::Result {
+        let number = self.number();
+        let place = self.place();
+        write!(f, "refused {number} at {place}")
+    }
+}
+
+impl Error for ClearFault {}

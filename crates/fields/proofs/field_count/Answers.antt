@@ -1,17 +1,14 @@
-use Rattle.std.proofs.Common.{length, sym, ap, arith}
-use Rattle.fields.specs.Fields.{seen_field}
-use Rattle.fields.proofs.Cuts.{cut-length}
-use Rattle.fields.proofs.Bodies.{bodies-end, bodies-more}
+use Rattle.std.proofs.Common.{length, sym, ap, arith, ◌∙◌, inl}
+use Rattle.std.proofs.lemmas.List.{length-map}
+use Rattle.std.proofs.lemmas.Iterator.Consumers.{count_from_yields_List, YieldsList-from_first}
+use Rattle.fields.specs.Fields.{seen_field, fields_left}
+use Rattle.fields.proofs.Bodies.{fields-few}
 use Rattle.fields.proofs.field_count.Goals as goal
 
-pub loop-field-smaller : goal.loop-field-smaller
-loop-field-smaller c = omega (arith, cut-length c.loop-field.rest.now (seen_field c.in-Some.field) (sym c.in-Some.ensures))
-
-pub loop-field-preserved : goal.loop-field-preserved
-loop-field-preserved c =
-    let s = cut-length c.loop-field.rest.now (seen_field c.in-Some.field) (sym c.in-Some.ensures) in
-    let m = ap length (bodies-more c.loop-field.rest.now (seen_field c.in-Some.field) (sym c.in-Some.ensures)) in
-    (omega arith, omega arith)
+pub count-requires-clause-fits : goal.count-requires-clause-fits
+count-requires-clause-fits c = inl (omega (arith, fields-few c.args.bytes.now, ap length c.of.ensures))
 
 pub returns : goal.returns
-returns c = let e = ap length (bodies-end c.loop-field.rest.now (sym c.in_default.ensures)) in omega arith
+returns c =
+    count_from_yields_List c.of.result c.count.result c.count.ensures.ran (YieldsList-from_first seen_field fields_left _ c.of.ensures)
+    ∙ sym (length-map _ _)

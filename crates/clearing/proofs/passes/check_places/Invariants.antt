@@ -1,9 +1,8 @@
 use Rattle.std.proofs.Common.{◌≡◌, [], ◌∷◌, None}
-use Rattle.package.specs.Views.{package_seen}
 use Rattle.rules.specs.declared.rule.Rule.TheVariants.{Misplaced}
 use Rattle.rules.specs.Sites.{lowest}
 use Rattle.verdict.specs.Breaking.{breaks, first_below}
 use Rattle.clearing.proofs.passes.check_places.Given as goal
 
 abbrev pub invariant-loop-at : goal.invariant-loop-at
-invariant-loop-at l = first_below (λ x. lowest (Misplaced ∷ []) (breaks (package_seen l.read) x)) l.at ≡ None
+invariant-loop-at l = first_below (λ x. lowest (Misplaced ∷ []) (breaks l.read x)) l.at ≡ None

@@ -1,10 +1,9 @@
 use Rattle.std.proofs.Common.{◌+◌, ◌<◌, length, sym, ap, ◌∙◌, subst, arith}
 use Rattle.instruction.specs.Decoding.{decoded}
-use Rattle.package.specs.Views.{package_seen}
 use Rattle.rules.specs.declared.rule.Rule.TheVariants.{Undecoded}
 use Rattle.rules.proofs.Starting.{from-none}
 use Rattle.start_table.specs.declared.StartTable.{StartTable}
-use Rattle.start_table.specs.Table.{Kept}
+use Rattle.start_table.specs.Table.{Kept, size}
 use Rattle.start_table.proofs.Keeping.{kept_refl, kept_trans}
 use Rattle.clearing.specs.Passing.{TellsStarts}
 use Rattle.clearing.proofs.Scans.{below_more, below_none, decoded-some, found, no_start, undecoded-none}
@@ -20,9 +19,9 @@ loop-at-init c =
 pub returns-in_default : goal.returns-in_default
 returns-in_default c =
     let i = c.loop-at.invariant in
-    let k = package_seen c.args.read.now in
+    let k = c.args.read.now in
     let x = c.loop-at.at in
-    let same = c.code-code.ensures in
+    let same = c.code-code.ensures.is in
     let none = ap (λ xs. decoded xs x) (sym same) ∙ sym c.in_default.ensures.is in
     let s = starts-here k.code x c.loop-at.next i.0 c.if-at-next.true in
     record {
@@ -34,11 +33,11 @@ returns-in_default c =
 pub loop-at-preserved : goal.loop-at-preserved
 loop-at-preserved c =
     let i = c.loop-at.invariant in
-    let k = package_seen c.args.read.now in
+    let k = c.args.read.now in
     let x = c.loop-at.at in
     let n = c.loop-at.next in
     let t = c.loop-at.table in
-    let same = c.code-code.ensures in
+    let same = c.code-code.ensures.is in
     elim c.if-at-next.branch [
       | then-at-next+in-Some w ↦
           let d = w.in-Some.found in
@@ -52,7 +51,7 @@ loop-at-preserved c =
             subst (λ (u : StartTable). Kept c.args.table.now u) (sym w.table-is) (kept_trans i.4 kept),
           )
       | else-at-next w ↦
-          let l : x < t.size = omega (arith, c.loop-at-test.true, ap length same, c.requires.size, i.4.size) in (
+          let l : x < size t = omega (arith, c.loop-at-test.true, ap length same, c.requires.size, i.4.size) in (
             w.next-is ∙ next-same k.code x n i.0 w.if-at-next.false,
             below_more _ x i.1 (no_start k x (no-start-here k.code x n i.0 w.if-at-next.false)),
             subst (λ (u : StartTable). TellsStarts k.code u (x + 1)) (sym w.table-is) (tells_none k.code x n i.0 t i.2 w.if-at-next.false l i.3),

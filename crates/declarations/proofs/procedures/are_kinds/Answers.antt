@@ -1,12 +1,11 @@
-use Rattle.std.proofs.Common.{sym, ◌∙◌}
-use Rattle.declarations.proofs.Checks.{kinds-more, kinds-fail, kinds-all}
+use Rattle.std.proofs.Common.{rules, ◌∙◌}
+use Rattle.std.proofs.lemmas.Iterator.Search.{all_from_yields_List}
+use Rattle.std.proofs.lemmas.Iterator.{YieldsList-from_slice}
+use Rattle.declarations.specs.Kinds.{is_kind}
+use Rattle.declarations.proofs.Checks.{kinds-all}
 use Rattle.declarations.proofs.procedures.are_kinds.Goals as goal
 
-pub loop-byte-preserved : goal.loop-byte-preserved
-loop-byte-preserved c = c.loop-byte.invariant ∙ kinds-more _ _ c.loop-byte-test.true (sym c.is_kind.ensures ∙ c.if-not-is_kind.false)
-
-pub returns-then-not-is_kind : goal.returns-then-not-is_kind
-returns-then-not-is_kind c = sym (c.loop-byte.invariant ∙ kinds-fail _ _ c.loop-byte-test.true (sym c.is_kind.ensures ∙ c.if-not-is_kind.true))
-
 pub returns : goal.returns
-returns c = sym (c.loop-byte.invariant ∙ kinds-all _ _ c.loop-byte-test.false)
+returns c =
+    all_from_yields_List is_kind _ _ _ c.all.ensures.ran (YieldsList-from_slice _ c.iter.ensures.rest) (λ x b q k. search rules)
+    ∙ kinds-all c.args.bytes.now

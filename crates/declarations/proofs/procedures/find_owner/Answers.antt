@@ -1,29 +1,22 @@
-use Rattle.std.proofs.Common.{◌<◌, ◌≤◌, sym, ◌∙◌, arith}
-use Rattle.fields.specs.Fields.{seen_field}
+use Rattle.std.proofs.Common.{[], leb, rules, ap, ◌∙◌}
+use Rattle.std.specs.Option.{unwrap_or}
+use Rattle.std.proofs.lemmas.Iterator.{YieldsList-from_map_by}
+use Rattle.std.proofs.lemmas.Iterator.Consumers.{YieldsList-from_first, YieldsList-at}
+use Rattle.std.proofs.lemmas.Iterator.Search.{YieldsList-from_take_while}
+use Rattle.fields.specs.Fields.{bodies_in, fields_left, seen_field}
 use Rattle.declarations.specs.Procedures.{procedure_of}
-use Rattle.declarations.specs.Views.{procedure_seen}
-use Rattle.fields.proofs.Cuts.{cut-length}
-use Rattle.declarations.proofs.Walks.{owner-end, owner-beyond, owner-passed}
+use Rattle.declarations.proofs.Lists.{last_from_yields_List, unwrap_or-map}
+use Rattle.declarations.proofs.Owners.{owner-last}
 use Rattle.declarations.proofs.procedures.find_owner.Goals as goal
-
-pub loop-field-smaller : goal.loop-field-smaller
-loop-field-smaller c = omega (arith, cut-length c.loop-field.rest.now (seen_field c.in-Some.field) (sym c.in-Some.ensures))
-
-pub loop-field-preserved : goal.loop-field-preserved
-loop-field-preserved c =
-    let le : c.of-procedure.result.offset ≤ c.args.offset = omega arith in
-    c.loop-field.invariant
-    ∙ owner-passed c.loop-field.rest.now (procedure_of c.loop-field.best.now) c.args.offset (seen_field c.in-Some.field) (procedure_seen c.of-procedure.result) (sym c.in-Some.ensures) c.of-procedure.ensures le
-
-pub returns-then-from-offset : goal.returns-then-from-offset
-returns-then-from-offset c =
-    let lt : c.args.offset < c.of-procedure.result.offset = omega arith in
-    c.of.ensures
-    ∙ sym
-    (c.loop-field.invariant
-    ∙ owner-beyond c.loop-field.rest.now (procedure_of c.loop-field.best.now) c.args.offset (seen_field c.in-Some.field) (procedure_seen c.of-procedure.result) (sym c.in-Some.ensures) c.of-procedure.ensures lt)
 
 pub returns : goal.returns
 returns c =
     c.of-2.ensures
-    ∙ sym (c.loop-field.invariant ∙ owner-end c.loop-field.rest.now (procedure_of c.loop-field.best.now) c.args.offset (sym c.in_default.ensures))
+    ∙ ap procedure_of (ap (λ b. b.now) c.unwrap_or-body.ensures ∙ unwrap_or-map (λ b. b.now) c.last.result _
+    ∙ ap (λ o. unwrap_or o [])
+    (last_from_yields_List c.last.result c.last.ensures.ran
+    (YieldsList-from_take_while _ (λ b. leb (procedure_of b).offset c.args.offset)
+    (YieldsList-at c.take_while.ensures.source
+    (YieldsList-from_map_by _ (λ b. b.now) (λ f. f.body) (YieldsList-at c.map.ensures.source (YieldsList-from_first seen_field fields_left _ c.of.ensures)) c.map.ensures.closure (λ x r q k. search rules)))
+    c.take_while.ensures.closure c.take_while.ensures.done (λ x b q k. search rules))))
+    ∙ owner-last [] (bodies_in c.args.procedures.now) c.args.offset

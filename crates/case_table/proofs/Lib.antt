@@ -1,0 +1,5 @@
+pub mod Cut
+pub mod Digits
+pub mod Adding
+pub mod Groups
+pub mod Words

@@ -1,0 +1,5 @@
+pub mod Errors
+pub mod Lines
+pub mod Responses
+pub mod Spelling
+pub mod Words
