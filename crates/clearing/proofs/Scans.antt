@@ -41,9 +41,6 @@ module _ (f : ℕ → Option Rule) where
   pub ended : (n : ℕ) → first_below f n ≡ None → Ok tt ≡ passed (first_below f n)
   ended n e = sym (ap passed e)
 
-one_found : (r : Rule) (b : Bool) → b ≡ true → cond b (Some r) None ≡ Some r
-one_found r b e = cond-true b (Some r) None e
-
 -- decoding, at an offset
 module _ (k : Package) (x : ℕ) where
   pub undecoded-none : decoded k.code x ≡ None → is_start k.code x ≡ true → lowest (rule.Undecoded ∷ []) (breaks k x) ≡ Some rule.Undecoded

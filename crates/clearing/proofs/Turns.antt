@@ -37,9 +37,6 @@ module _ (k : Package) (x : ℕ) where
   unfolding breaks
   broken-with = refl
 
-  idle : (o : Option Decoded) → broken_with false o ≡ None
-  idle o = refl
-
   judged-with : (o : Option Decoded) → judged_at k x (falls_into k x) o ≡ settled (broken_with true o) (and_then o (λ d. onward (site_at k x (falls_into k x) d)))
   judged-with None = refl
   judged-with (Some d) = refl

@@ -12,7 +12,8 @@ pub(crate) fn is_kind(byte: u8) -> bool
     Kind::try_from(u32::from(byte)).is_ok()
 }
 
-// The kind that a byte names. A byte that names none never comes here: reading refuses it.
+// The kind that a byte names. A byte that names none never comes here, since reading refuses it; the look-ups over such
+// bytes cannot fail, so it is taken for an int.
 pub(crate) fn kind_of(byte: u8) -> Kind
     ensures { result ≡ kind_of byte }
 {

@@ -107,6 +107,7 @@ impl<'a> DoubleEndedIterator for Entries<'a> {
 }
 
 // The mark at an offset, among mark fields that stand one behind another.
+#[tactic(auto, unfolding(crate::specs::Marks::mark_at))]
 pub fn find_mark<'a>(marks: &'a [u8], offset: usize) -> Option<MarkView<'a>>
     ensures { mark_found result ≡ mark_at (marks_in marks.now) offset }
 {

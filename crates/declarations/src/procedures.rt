@@ -146,6 +146,7 @@ impl<'a> DoubleEndedIterator for Parameters<'a> {
 }
 
 // The first of some procedures, whose fields stand one behind another: the program.
+#[tactic(auto, unfolding(crate::specs::Procedures::program_of))]
 pub fn first_procedure<'a>(procedures: &'a [u8]) -> ProcedureView<'a>
     ensures { procedure_seen result ≡ program_of (procedures_in procedures.now) }
 {
@@ -169,6 +170,7 @@ pub fn find_owner<'a>(procedures: &'a [u8], offset: usize) -> ProcedureView<'a>
 }
 
 // The procedure that opens at an offset of the code, among procedure fields that stand one behind another.
+#[tactic(auto, unfolding(crate::specs::Procedures::opening_at))]
 pub fn find_opening<'a>(procedures: &'a [u8], offset: usize) -> Option<ProcedureView<'a>>
     ensures { procedure_found result ≡ opening_at (procedures_in procedures.now) offset }
 {

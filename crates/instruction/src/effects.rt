@@ -161,7 +161,7 @@ impl Operation {
     }
 }
 
-// The entry of a text.
+// The entry of a text. Texts and addresses are made here alone, of operands.
 pub fn text_entry(count: u8) -> Entry
     ensures { result ≡ text_entry count }
 {

@@ -107,6 +107,7 @@ impl Tally {
         if offset >= self.code || procedure.locals > MOST_LOCALS || procedure.depth > MOST_DEPTH {
             return true;
         }
+        // The bytes and not the view, which tells a kind also of a byte that names none.
         let result = body[6];
         if !is_result(result) || !has_kinds(body) {
             return true;

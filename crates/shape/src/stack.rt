@@ -68,7 +68,7 @@ impl Shape {
         self.rows[..self.count].last().copied()
     }
 
-    // Takes what is wanted from the top; none where it is not there.
+    // Takes what is wanted from the top; none, for a `?`, where it is not there. What was taken is what was wanted.
     pub fn take(&mut self, want: Want) -> Option<()>
         ensures { Taken want self.old self.new result }
     {

@@ -8,9 +8,14 @@ use Rattle.verdict.specs.Numbers as clear
 use Rattle.verdict.specs.Answers.{clearing}
 
 -- what is said of bytes: cleared, or refused with a number at a place
-pub data Said : Type 0 where
-  cleared : Said
-  refused : ℕ → ℕ → Said
+abbrev pub Said : Type 0
+Said = Result (Unit {0}) (ℕ × ℕ)
+
+abbrev pub cleared : Said
+cleared = Ok tt
+
+abbrev pub refused : ℕ → ℕ → Said
+refused number place = Err (number, place)
 
 abbrev pub said_of_clearing : Result Package ClearFault → Said
 said_of_clearing (Ok k) = cleared
