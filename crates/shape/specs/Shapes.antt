@@ -1,5 +1,5 @@
 -- Shapes: lists of entries, the top of the stack first.
-use Rattle.std.specs.Prelude.{◌≡◌, ℕ, ◌<◌, ◌≤◌, Bool, true, cond, Ok, Err, Result, List, [], ◌∷◌, length, Some, None, Option}
+use Rattle.std.specs.Prelude.{◌≡◌, ℕ, ◌<◌, ◌≤◌, Bool, true, cond, Ok, Err, Result, List, [], ◌∷◌, drop, length, Some, None, Option}
 use Rattle.std.specs.List.{slice_get, sum_by}
 use Rattle.entries.specs.declared.Entry.{Entry}
 use Rattle.std.specs.Cmp.{IsEquivalence, on_equiv, and_equiv, nat_eq_equiv}
@@ -60,8 +60,8 @@ Popped None was after = (was ≡ []) × (after ≡ [])
 
 abbrev pub Taken : Want → List Entry → List Entry → Option (Unit {0}) → Type 0
 Taken w was after (Some _) = taken w was ≡ Some after
-Taken w was after None = taken w was ≡ None
+Taken w was after None = (taken w was ≡ None) × (after ≡ drop 1 was)
 
 abbrev pub Left : Option Entry → List Entry → List Entry → Result (Unit {0}) Full → Type 0
 Left o was after (Ok _) = (left o was ≡ after) × (length (left o was) ≤ 16)
-Left o was after (Err _) = 16 < length (left o was)
+Left o was after (Err _) = (16 < length (left o was)) × (after ≡ was)

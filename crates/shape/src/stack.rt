@@ -68,7 +68,7 @@ impl Shape {
         self.rows[..self.count].last().copied()
     }
 
-    // Takes what is wanted from the top; none, for a `?`, where it is not there. What was taken is what was wanted.
+    // Takes what is wanted from the top; none, for a `?`, where it is not there: then the entry on top is gone.
     pub fn take(&mut self, want: Want) -> Option<()>
         ensures { Taken want self.old self.new result }
     {
@@ -81,7 +81,7 @@ impl Shape {
         }
     }
 
-    // Leaves an entry on top, if there is one to leave; an error where sixteen are held.
+    // Leaves an entry on top, if there is one to leave; an error, and nothing changed, where sixteen are held.
     pub fn leave(&mut self, entry: Option<Entry>) -> Result<(), Full>
         ensures { Left entry self.old self.new result }
     {
