@@ -3,3 +3,4 @@ pub mod Digits
 pub mod Adding
 pub mod Groups
 pub mod Words
+pub mod Telling

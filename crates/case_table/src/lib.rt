@@ -15,7 +15,7 @@ mod response;
 pub use bytes::assemble;
 pub use error::CaseError;
 pub use line::Line;
-pub use response::respond;
+pub use response::{Response, respond};
 
 #[cfg(test)]
 mod tests;

@@ -1,4 +1,4 @@
-use super::{CaseError, Line, assemble, respond};
+use super::{CaseError, Line, Response, assemble, respond};
 use std::alloc::AllocError;
 
 #[test]
@@ -57,5 +57,32 @@ fn each_line_gets_a_response(rt: HostRuntime) -> Result<(), AllocError> {
         let said = respond(rt.alloc(), line, "counted", count)?;
         assert_eq!(rt; said.as_str(), response);
     }
+    Ok(())
+}
+
+#[test]
+fn responses_tell_headings_cases_and_verdicts(rt: HostRuntime) -> Result<(), AllocError> {
+    let heading = Response::of(rt.alloc(), "tags", "counted", count)?;
+    assert!(rt; matches!(heading, Response::Heading("tags")));
+    let half = Response::of(rt.alloc(), "half a byte: 0", "counted", count)?;
+    assert!(rt;
+        matches!(
+            half,
+            Response::NoCase {
+                name: "half a byte"
+            }
+        )
+    );
+    let judged = Response::of(rt.alloc(), "two: 01 00", "counted", count)?;
+    assert!(rt;
+        matches!(
+            judged,
+            Response::Judged {
+                name: "two",
+                done: "counted",
+                verdict: Ok(2)
+            }
+        )
+    );
     Ok(())
 }

@@ -2,15 +2,17 @@
 // The crate `case_table` says how a table is written.
 #![tactic(auto)]
 
-use case_table::respond;
+use case_table::Response;
 use package::read;
 use std::io;
+use std::io::{BufRead, BufReader};
 
 fn main(rt: HostRuntime) -> io::Result<()> {
     let heap = rt.alloc();
-    for line in rt.lines(heap) {
+    // Through a buffer: the lines of standard input itself take a pipe a byte at a time.
+    for line in BufReader::new(heap, rt.stdin())?.lines(heap) {
         let line = line?;
-        let response = respond(heap, line.as_str(), "read", |bytes| {
+        let response = Response::of(heap, line.as_str(), "read", |bytes| {
             read(bytes).map(|package| package.counts())
         })?;
         rt.println(response)?;

@@ -2,16 +2,18 @@
 // response. The crate `case_table` says how a table is written.
 #![tactic(auto)]
 
-use case_table::respond;
+use case_table::Response;
 use clearing::check;
 use package::MOST_CODE;
 use std::io;
+use std::io::{BufRead, BufReader};
 
 fn main(rt: HostRuntime) -> io::Result<()> {
     let heap = rt.alloc();
-    for line in rt.lines(heap) {
+    // Through a buffer: the lines of standard input itself take a pipe a byte at a time.
+    for line in BufReader::new(heap, rt.stdin())?.lines(heap) {
         let line = line?;
-        let response = respond(heap, line.as_str(), "cleared", |bytes| {
+        let response = Response::of(heap, line.as_str(), "cleared", |bytes| {
             // As many bytes as the longest code has, so that the work area is never too short.
             let mut work = [0; MOST_CODE];
             check(bytes, &mut work).map(|cleared| cleared.package().counts())

@@ -1,6 +1,6 @@
 -- What a field's body declares.
-use Rattle.std.proofs.Common.{◌≡◌, ℕ, ◌≤◌, List, map, length, get_or, take, drop, Option, sym, ◌∙◌, arith}
-use Rattle.std.proofs.lemmas.Bool.{cond-false, le-ltb}
+use Rattle.std.proofs.Common.{◌≡◌, ℕ, ◌<◌, ◌≤◌, List, [], map, length, get_or, take, drop, Option, sym, ◌∙◌, arith}
+use Rattle.std.proofs.lemmas.Bool.{cond-false, cond-true, le-ltb, lt-ltb}
 use Rattle.entries.specs.declared.Entry.{Entry}
 use Rattle.entries.specs.declared.Kind.{Kind}
 use Rattle.entries.specs.declared.Kind.TheVariants.{Byte, Char, Int}
@@ -25,3 +25,8 @@ pub mark_made : (body : List ℕ) (o : ℕ) (es : List Entry) → 2 ≤ length b
 mark_made body o es long eo ee =
     let q : ◌≡◌ {A = Mark} (record { offset = o; entries = es }) (record { offset = two body 0; entries = entries_of (drop 2 body) }) = cc in
     q ∙ sym (cond-false _ _ _ (le-ltb (length body) 2 long))
+
+-- a body that is too short holds a blank mark
+pub mark-none : (body : List ℕ) → length body < 2 → record { offset = 0; entries = entries_of [] } ≡ mark_of body
+unfolding entries_of
+mark-none body short = sym (cond-true _ _ _ (lt-ltb (length body) 2 short))

@@ -20,7 +20,8 @@ pub fn decode(code: &[u8], at: usize) -> Option<Decoded>
     ensures is { result ≡ decoded code.now at }
     ensures within { Within code.now at result }
 {
-    let (&opcode, mut rest) = code.get(at..)?.split_first()?;
+    let opcode = *code.get(at)?;
+    let mut rest = &code[at + 1..];
     let instruction = with_operand(opcode, &mut rest)?;
     Some(Decoded {
         instruction,

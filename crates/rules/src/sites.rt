@@ -35,8 +35,8 @@ const INSTRUCTION_RULES: [Rule; 8] = [
 // An instruction where it stands, with the shapes about it: its mark's, what falls in, what is before it, and what is
 // there without the upper part and without all of what it needs.
 // Clauses see it through `site_seen`, and not by a model, since its package is no part of a site.
-#[derive(Drop)]
-struct SiteView<'r, 'a> {
+#[derive(Clone, Copy)]
+pub struct SiteView<'r, 'a> {
     read: &'r ReadPackage<'a>,
     owner: ProcedureView<'a>,
     effect: Effect,

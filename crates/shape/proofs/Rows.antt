@@ -7,7 +7,7 @@ use Rattle.std.specs.List.{slice_get, sum_by}
 use Rattle.entries.specs.declared.Entry.{Entry}
 use Rattle.entries.specs.Sizes.{entry_size}
 use Rattle.shape.specs.declared.Shape.TheInside.{Inside}
-use Rattle.shape.specs.Rows.{entries_of}
+use Rattle.shape.specs.Rows.{BlankBehind, entries_of}
 
 reverse-push : {X : Type 0} (xs : List X) (x : X) → reverse (xs ++ x ∷ []) ≡ x ∷ reverse xs
 reverse-push xs x = reverse-append xs (x ∷ [])
@@ -43,6 +43,9 @@ module _ {X : Type 0} (xs : List X) (n : ℕ) where
 -- how many entries the rows hold
 pub entries-length : (s : Inside) → s.count ≤ 16 → length s.rows ≡ 16 → length (entries_of s) ≡ s.count
 entries-length s f w = length-reverse (take s.count s.rows) ∙ length-take-le s.count s.rows (omega (arith, f, w))
+
+pub stack-few : (s : Inside) → BlankBehind s → length (entries_of s) ≤ 16
+stack-few s h = omega (arith, entries-length s h.few h.wide, h.few)
 
 -- the last row is the top
 pub top_row : {X : Type 0} (xs : List X) → slice_get xs (length xs - 1) ≡ slice_get (reverse xs) 0

@@ -1,5 +1,5 @@
 // Entries on a shape.
-ghost use Rattle.std.specs.Prelude.{◌≡◌, [], length, ◌==◌, nat_lt};
+ghost use Rattle.std.specs.Prelude.{◌≡◌, ◌≤◌, [], length, ◌==◌, nat_lt};
 ghost use Rattle.shape.specs.Shapes.{Left, Popped, Pushed, Taken, fits, shape_size, top_of};
 
 use super::{BLANK, Full, MOST_ENTRIES, Shape};
@@ -28,8 +28,10 @@ impl Shape {
         }
     }
 
+    // A caller learns here, too, that a shape has at most sixteen entries, whatever it was made by.
     pub fn is_empty(&self) -> bool
-        ensures { result ≡ (length self.now == 0) }
+        ensures is { result ≡ (length self.now == 0) }
+        ensures few { length self.now ≤ 16 }
     {
         self.count == 0
     }
@@ -51,13 +53,11 @@ impl Shape {
     pub fn pop(&mut self) -> Option<Entry>
         ensures { Popped result self.old self.new }
     {
-        if self.count == 0 {
-            return None;
-        }
-        self.count -= 1;
-        let row = &mut self.rows[self.count];
+        let top = self.count.checked_sub(1)?;
+        let row = &mut self.rows[top];
         let entry = *row;
         *row = BLANK;
+        self.count = top;
         Some(entry)
     }
 
@@ -81,9 +81,11 @@ impl Shape {
         }
     }
 
-    // Leaves an entry on top, if there is one to leave; an error, and nothing changed, where sixteen are held.
+    // Leaves an entry on top, if there is one to leave; an error, and nothing changed, where sixteen are held. With
+    // nothing to leave there is no error, since no more are held.
     pub fn leave(&mut self, entry: Option<Entry>) -> Result<(), Full>
-        ensures { Left entry self.old self.new result }
+        ensures left { Left entry self.old self.new result }
+        ensures few { length self.old ≤ 16 }
     {
         // With nothing to leave, too, at most sixteen are held.
         prove!(self.count <= MOST_ENTRIES);

@@ -1,10 +1,11 @@
-use Rattle.std.proofs.Common.{◌≤◌, rules, arith, length, length-take, take}
+use Rattle.std.proofs.Common.{◌≡◌, ◌≤◌, rules, arith, length, length-take, take}
 use Rattle.std.proofs.lemmas.List.{length-map}
 use Rattle.std.proofs.lemmas.Iterator.{YieldsList-from_map}
 use Rattle.std.proofs.lemmas.Iterator.Consumers.{YieldsList-from_first, YieldsList-at, sum_by_from_yields_List}
 use Rattle.std.proofs.lemmas.Iterator.Adapters.{fits_from_length, at_most_from_yields_List}
 use Rattle.entries.specs.Sizes.{size_of}
 use Rattle.declarations.specs.Kinds.{kind_of}
+use Rattle.declarations.specs.Procedures.{parameters_size}
 use Rattle.declarations.specs.Views.{parameters_left, procedure_seen}
 use Rattle.declarations.proofs.Bodies.{size-le}
 use Rattle.declarations.proofs.procedures.ProcedureView.parameters_size.Goals as goal
@@ -16,4 +17,6 @@ sum-requires-clause-fits c =
 
 pub returns : goal.returns
 returns c =
-    sum_by_from_yields_List size_of _ c.map.result _ c.sum.ensures.ran (YieldsList-from_map _ size_of (YieldsList-at c.map.ensures.source (YieldsList-from_first (λ x. x) parameters_left _ c.parameters.ensures)) c.map.ensures.closure (λ x r q k. search rules))
+    let summed : c.sum.result ≡ parameters_size (procedure_seen c.args.self.now).parameters =
+    sum_by_from_yields_List size_of _ c.map.result _ c.sum.ensures.ran (YieldsList-from_map _ size_of (YieldsList-at c.map.ensures.source (YieldsList-from_first (λ x. x) parameters_left _ c.parameters.ensures)) c.map.ensures.closure (λ x r q k. search rules)) in
+    omega (arith, summed)
