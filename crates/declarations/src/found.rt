@@ -19,8 +19,9 @@ pub(crate) trait FieldView<'a>: Sized + Drop {
     fn view(body: &'a [u8]) -> Self
         ensures { shown result ≡ told body.now };
 
-    fn place(&self) -> usize
-        ensures { result ≡ place (shown self.now) };
+    // The offset alone: the search asks each field for it.
+    fn place(body: &'a [u8]) -> usize
+        ensures { result ≡ place (told body.now) };
 }
 
 // The first that stands at an offset, among fields that stand one behind another.
@@ -29,9 +30,8 @@ pub(crate) fn find_at<'a, V: FieldView<'a>>(fields: &'a [u8], offset: usize) -> 
 {
     // A `for`, since the check does not cover a closure for `find` under a bound with a lifetime.
     for field in Fields::of(fields) {
-        let view = V::view(field.body);
-        if view.place() == offset {
-            return Some(view);
+        if V::place(field.body) == offset {
+            return Some(V::view(field.body));
         }
     }
     None

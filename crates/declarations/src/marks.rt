@@ -75,8 +75,11 @@ impl<'a> FieldView<'a> for MarkView<'a> {
         MarkView::of(body)
     }
 
-    fn place(&self) -> usize {
-        usize::from(self.offset)
+    fn place(body: &'a [u8]) -> usize {
+        let [o1, o0, ..] = body else {
+            return 0;
+        };
+        usize::from(u16::from_be_bytes([*o1, *o0]))
     }
 }
 

@@ -113,8 +113,11 @@ impl<'a> FieldView<'a> for ProcedureView<'a> {
         ProcedureView::of(body)
     }
 
-    fn place(&self) -> usize {
-        usize::from(self.offset)
+    fn place(body: &'a [u8]) -> usize {
+        let [o1, o0, _, _, _, _, _, _, ..] = body else {
+            return 0;
+        };
+        usize::from(u16::from_be_bytes([*o1, *o0]))
     }
 }
 
@@ -163,7 +166,7 @@ pub fn find_owner<'a>(procedures: &'a [u8], offset: usize) -> ProcedureView<'a>
     // Bodies, and not views, since the latter take half as long again.
     let body = Fields::of(procedures)
         .map(|field| field.body)
-        .take_while(|body| usize::from(ProcedureView::of(body).offset) <= offset)
+        .take_while(|body| ProcedureView::place(body) <= offset)
         .last()
         .unwrap_or(&[]);
     ProcedureView::of(body)
