@@ -91,6 +91,9 @@ impl<'a> ReadPackage<'a> {
         find_opening(self.procedures, offset)
     }
 
+    // The mark at an offset of the code. Not inlined: clearing asks from several places, where the search takes most of
+    // the time if there are many marks, and so it stands once in a program, in a loop of its own.
+    #[inline(never)]
     pub fn mark_at(&self, offset: usize) -> Option<MarkView<'a>>
         ensures { mark_found result ≡ mark_at self.now.marks offset }
     {
