@@ -91,10 +91,20 @@ impl<'a> ReadPackage<'a> {
         find_opening(self.procedures, offset)
     }
 
-    // The mark at an offset of the code. Not inlined: clearing asks from several places, where the search takes most of
-    // the time if there are many marks, and so it stands once in a program, in a loop of its own.
-    #[inline(never)]
+    // The mark at an offset of the code. Where there are no marks, nothing is searched, nor called.
     pub fn mark_at(&self, offset: usize) -> Option<MarkView<'a>>
+        ensures { mark_found result ≡ mark_at self.now.marks offset }
+    {
+        if self.marks.is_empty() {
+            return None;
+        }
+        self.search_marks(offset)
+    }
+
+    // Not inlined: clearing asks from several places, where the search takes most of the time if there are many marks,
+    // and so it stands once in a program, in a loop of its own.
+    #[inline(never)]
+    fn search_marks(&self, offset: usize) -> Option<MarkView<'a>>
         ensures { mark_found result ≡ mark_at self.now.marks offset }
     {
         find_mark(self.marks, offset)
