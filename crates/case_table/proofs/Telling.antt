@@ -1,6 +1,5 @@
 -- What is printed of a response says what the line is answered.
 use Rattle.std.proofs.Common.{◌≡◌, ℕ, List, ◌++◌, codes, inl, inr, Option, Some, None, Result, ap, refl, append_assoc, ◌∙◌}
-use Rattle.std.specs.Fmt.{◌++?◌}
 use Rattle.std.specs.Option.{option_map, IfSome}
 use Rattle.case_table.specs.Responses.{Answers, Says, SaysVerdict, response_text, verdict_text}
 use Rattle.case_table.specs.declared.line.Line.{Line}
@@ -24,7 +23,10 @@ module _ {T E : Type 0} (passed : T → Option (List ℕ)) (refusal : E → Opti
   answered (Case name text) (response.NoCase shown) a is = inl (a.1, is ∙ ap (λ n. n ++ codes ": no case") a.0)
   answered (Case name text) (response.Judged shown what verdict) (n, w, (bytes, spells, judged)) is = inr (bytes, verdict, spells, judged, verdict-said name.now shown.now what.now verdict n w is)
 
--- what is written of a verdict that passes, piece by piece
-pub passed-text : (name done : List ℕ) (passed : Option (List ℕ)) → option_map (λ answer. name ++ codes ": " ++ answer) (option_map (λ text. done ++ codes " " ++ text) passed) ≡ Some name ++? Some (codes ": ") ++? Some done ++? Some (codes " ") ++? passed
-passed-text name done (Some text) = ap Some (append_assoc name (codes ": ") (done ++ codes " " ++ text) ∙ ap (λ xs. name ++ (codes ": " ++ xs)) (append_assoc done (codes " ") text))
-passed-text name done None = refl
+-- what is printed of a verdict that passes is what was written piece by piece, where the text of what passed is known
+pub passed-text : (name done : List ℕ) (passed written : Option (List ℕ)) (Said : List ℕ → Type 0) → ((text : List ℕ) → passed ≡ Some text → written ≡ Some (name ++ (codes ": " ++ (done ++ (codes " " ++ text))))) → IfSome written Said → IfSome (option_map (λ answer. name ++ codes ": " ++ answer) (option_map (λ text. done ++ codes " " ++ text) passed)) Said
+passed-text name done None written Said pieces said = tt
+passed-text name done (Some text) written Said pieces said =
+    let joined : (name ++ codes ": ") ++ ((done ++ codes " ") ++ text) ≡ name ++ (codes ": " ++ (done ++ (codes " " ++ text))) =
+    append_assoc name (codes ": ") _ ∙ ap (λ xs. name ++ (codes ": " ++ xs)) (append_assoc done (codes " ") text) in
+    rw joined (rw (pieces text refl) at said)

@@ -91,7 +91,7 @@ impl<'a> ReadPackage<'a> {
         find_opening(self.procedures, offset)
     }
 
-    // The mark at an offset of the code. Where there are no marks, nothing is searched, nor called.
+    // The mark at an offset of the code. A package without marks is answered here, without the search.
     pub fn mark_at(&self, offset: usize) -> Option<MarkView<'a>>
         ensures { mark_found result ≡ mark_at self.now.marks offset }
     {
@@ -101,8 +101,8 @@ impl<'a> ReadPackage<'a> {
         self.search_marks(offset)
     }
 
-    // Not inlined: clearing asks from several places, where the search takes most of the time if there are many marks,
-    // and so it stands once in a program, in a loop of its own.
+    // The search for it. Not inlined, so that its loop stands once in a program: clearing asks from several places, and
+    // with many marks most of its time goes here.
     #[inline(never)]
     fn search_marks(&self, offset: usize) -> Option<MarkView<'a>>
         ensures { mark_found result ≡ mark_at self.now.marks offset }
